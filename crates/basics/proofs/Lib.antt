@@ -1,0 +1,5 @@
+pub mod Bool
+pub mod All
+pub mod Counting
+pub mod Texts
+pub mod Clean

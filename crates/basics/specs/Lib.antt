@@ -1,0 +1,5 @@
+pub mod Text
+pub mod Lists
+pub mod Basics
+pub mod Outcome
+pub mod Buffer

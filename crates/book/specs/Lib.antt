@@ -1,0 +1,6 @@
+pub mod Refusal
+pub mod Book
+pub mod SType
+pub mod RExpr
+pub mod Program
+pub mod Decode

@@ -1,0 +1,1 @@
+// Refusal 4, for terms. The definitions are in specs/; the code comes with the book test.

@@ -1,0 +1,2 @@
+pub mod BookTest
+pub mod Promise

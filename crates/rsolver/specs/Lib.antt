@@ -1,0 +1,6 @@
+pub mod Step
+pub mod Methods
+pub mod SolverState
+pub mod LevelState
+pub mod REngine
+pub mod Trace

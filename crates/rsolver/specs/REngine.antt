@@ -1,0 +1,140 @@
+-- RSolver.dfy: class REngine, on a program that a book holds, over either form of the solver state.
+use Prim.Native.Nat.{ℕ, zero, suc, _-_}
+use mathlib.Core.Option.{Option, none, some}
+use mathlib.Core.List.{List, [], _∷_}
+use mathlib.Core.Bool.{Bool, true, false, not, _||_}
+use lib.Dec.{ltb}
+use lib.ListN.{length}
+use Rattle.basics.specs.Lists.{all, member}
+use Rattle.book.specs.SType.{STypeDecl, SType, SBool, SInt, SUserType, SConstant}
+use Rattle.book.specs.RExpr.{RExpr, RExprs, RPatterns, Function, Literal, ROperator, BuiltInOperator, UserDefinedFunction, Boolean, Integer, CustomLiteral, Id, FuncAppl, IfThenElse, LetExpr, QuantifierExpr, []ʳ, _∷ʳ_, []ᵖ, _∷ᵖ_}
+use Rattle.book.specs.Program.{Program, axiomAt, nodeAt, depth}
+use Rattle.solver_expr.specs.Lowering.{isTag, literalName}
+use Rattle.smt_engines.specs.Command.{Push, Pop, CheckSat, GetModel, Assume, AssumeNot, DeclareSort, DeclareConstant, DeclareFunction, DeclareLiteral}
+use Rattle.rsolver.specs.Step.{Step, skip, _⨟_, for, unless, either}
+use Rattle.rsolver.specs.Methods.{type, constant, function, axiom′, Methods}
+
+-- exclude' := exclude + {v} for each v; constants are told apart by their numbers
+unfoldable pub withConstants : List SConstant → List ℕ → List ℕ
+withConstants [] exclude = exclude
+withConstants (v ∷ vv) exclude = withConstants vv (v .number ∷ exclude)
+
+module _ {S : Type 0} (M : Methods S) where
+  -- state.DeclareType(decl, decl)
+  unfoldable pub declareType : STypeDecl → Step S
+  declareType decl = M .send (DeclareSort decl) ⨟ M .addDeclarationMarker (type (decl .number))
+
+  -- state.DeclareSymbol(v, v)
+  unfoldable pub declareConstant : SConstant → Step S
+  declareConstant v = M .send (DeclareConstant v) ⨟ M .addDeclarationMarker (constant (v .number))
+
+  -- state.DeclareSymbol(decl, func)
+  unfoldable pub declareFunction : Function → Step S
+  declareFunction func = M .send (DeclareFunction func) ⨟ M .addDeclarationMarker (function (func .number))
+
+  -- state.DeclareAdditionalName(c, name)
+  unfoldable pub declareLiteral : ℕ → Literal → Step S
+  declareLiteral t l = M .send (DeclareLiteral l) ⨟ M .addName t (literalName l)
+
+  -- state.AddAssumption(e.ToSExpr(LiteralMapper()))
+  unfoldable pub assume : RExpr → Step S
+  assume e s = M .send (Assume e (M .declaredCount s)) s
+
+  unfoldable pub assumeNot : RExpr → Step S
+  assumeNot e s = M .send (AssumeNot e (M .declaredCount s)) s
+
+  unfoldable pub declareNewTypes : SType → Step S
+  declareNewTypes SBool = skip
+  declareNewTypes SInt = skip
+  declareNewTypes (SUserType decl) = unless (M .isDeclared (type (decl .number))) (declareType decl)
+
+  unfoldable pub declareTypeOf : SConstant → Step S
+  declareTypeOf v = declareNewTypes (v .typ)
+
+  module _ (p : Program) where
+    -- DeclareNewSymbols; `inner` is the same for an axiom's term, with nothing excluded
+    module _ (inner : RExpr → Step S) where
+      -- an axiom that is not in axiomMap is missed, whether or not it would be sent
+      unfoldable pub sendAxiom : ℕ → List ℕ → Option RExpr → Step S
+      sendAxiom k explains none = M .miss
+      sendAxiom k explains (some cond) =
+          unless (λ s. M .isDeclared (axiom′ k) s || not (all explains (λ f. M .isDeclared (function f) s)))
+          (M .addDeclarationMarker (axiom′ k) ⨟ inner cond ⨟ assume cond)
+
+      unfoldable pub includeAxiom : ℕ → Step S
+      includeAxiom k = sendAxiom k (axiomAt p k .explains) (axiomAt p k .term)
+
+      unfoldable pub declareOperator : ROperator → Step S
+      declareOperator (BuiltInOperator name) = skip
+      declareOperator (UserDefinedFunction func) =
+          unless (M .isDeclared (function (func .number)))
+          (for (func .inputTypes) declareNewTypes
+          ⨟ declareNewTypes (func .typ)
+          ⨟ declareFunction func
+          ⨟ for (func .explainedBy) includeAxiom)
+
+      unfoldable mutual
+        pub declareSymbols : RExpr → (exclude : List ℕ) → Step S
+        declareSymbols (Boolean b) exclude = skip
+        declareSymbols (Integer x) exclude = skip
+        declareSymbols (CustomLiteral t l) exclude =
+            unless (λ s. isTag l || M .isNamed (literalName l) s) (declareNewTypes (l .typ) ⨟ declareLiteral t l)
+        declareSymbols (Id v) exclude =
+            unless (λ s. member (v .number) exclude || M .isDeclared (constant (v .number)) s)
+            (declareNewTypes (v .typ) ⨟ declareConstant v)
+        declareSymbols (FuncAppl op args) exclude = declareOperator op ⨟ declareAllSymbols args exclude
+        declareSymbols (IfThenElse guard thn els) exclude =
+            declareSymbols guard exclude ⨟ declareSymbols thn exclude ⨟ declareSymbols els exclude
+        declareSymbols (LetExpr v rhs body) exclude =
+            declareNewTypes (v .typ) ⨟ declareSymbols rhs exclude ⨟ declareSymbols body (v .number ∷ exclude)
+        declareSymbols (QuantifierExpr univ vv patterns body) exclude =
+            for vv declareTypeOf
+            ⨟ declarePatternSymbols patterns (withConstants vv exclude)
+            ⨟ declareSymbols body (withConstants vv exclude)
+
+        pub declareAllSymbols : RExprs → (exclude : List ℕ) → Step S
+        declareAllSymbols []ʳ exclude = skip
+        declareAllSymbols (e ∷ʳ es) exclude = declareSymbols e exclude ⨟ declareAllSymbols es exclude
+
+        pub declarePatternSymbols : RPatterns → (exclude : List ℕ) → Step S
+        declarePatternSymbols []ᵖ exclude = skip
+        declarePatternSymbols (t ∷ᵖ ts) exclude = declareAllSymbols t exclude ⨟ declarePatternSymbols ts exclude
+
+    -- an axiom is sent once, so walks nest no deeper than there are axioms
+    unfoldable pub walk : (fuel : ℕ) → RExpr → Step S
+    walk zero e = skip
+    walk (suc fuel) e = declareSymbols (λ cond. walk fuel cond) e []
+
+    unfoldable pub declareNewSymbols : RExpr → Step S
+    declareNewSymbols e = walk (suc (length (p .axioms))) e
+
+    -- the last three statements of AdjustContext
+    unfoldable pub enter : ℕ → Step S
+    enter node = M .push node ⨟ declareNewSymbols (nodeAt p node .expr) ⨟ assume (nodeAt p node .expr)
+
+    -- AdjustContext, of a node of depth d
+    unfoldable pub adjustContext : (d node : ℕ) → Step S
+    adjustContext zero node = skip
+    adjustContext (suc d) node =
+        let adjustParent : Step S = λ s. adjustContext d (nodeAt p node .parent) s in
+        either (λ s. ltb (M .stackLength s) (suc d))
+        (adjustParent ⨟ enter node)
+        (unless (M .isTopMemo node) (M .pop ⨟ adjustParent ⨟ enter node))
+
+    unfoldable pub popTimes : ℕ → Step S
+    popTimes zero s = s
+    popTimes (suc n) s = popTimes n (M .pop s)
+
+    unfoldable pub setContext : ℕ → Step S
+    setContext node s = adjustContext (depth p node) node (popTimes (M .stackLength s - depth p node) s)
+
+    -- Prove behind SetContext, up to the check
+    unfoldable pub askGoal : ℕ → RExpr → Step S
+    askGoal node e = M .push node ⨟ declareNewSymbols e ⨟ M .send Push ⨟ assumeNot e ⨟ M .send CheckSat
+
+  -- Prove behind the check: GetModel where the reply asks for it, and at last the two pops, of the solver and of the state
+  unfoldable pub askModel : Step S
+  askModel = M .send GetModel
+
+  unfoldable pub closeGoal : Step S
+  closeGoal = M .send Pop ⨟ M .pop

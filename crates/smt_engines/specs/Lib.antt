@@ -1,0 +1,3 @@
+pub mod SmtEngines
+pub mod Command
+pub mod Reader

@@ -1,0 +1,1 @@
+// SmtEngines.dfy: the commands. The definitions are in specs/; the code comes with printing.

@@ -1,0 +1,4 @@
+pub mod SolverExpr
+pub mod Lowering
+pub mod Operators
+pub mod Print

@@ -1,0 +1,120 @@
+-- SolverExpr.dfy: S-expressions, how they are printed, and their builders.
+use Prim.Native.Nat.{ℕ, _+_}
+use mathlib.Core.List.{List, [], _∷_, _++_}
+use mathlib.Core.Bool.{Bool, true, false}
+use lib.IntN.{ℤ}
+use lib.ListN.{replicate}
+use Rattle.basics.specs.Text.{Text, ascii, newline, if_then_else_}
+use Rattle.basics.specs.Basics.{int2String}
+use Rattle.book.specs.SType.{SType, SBool, SInt, SUserType, SConstant}
+
+-- pun: solver expression. SExprs is seq<SExpr>
+mutual
+  pub data SExpr : Type 0 where
+    S : Text → SExpr
+    PP : SExprs → SExpr
+
+  pub data SExprs : Type 0 where
+    []ˢ : SExprs
+    _∷ˢ_ : SExpr → SExprs → SExprs
+
+infixr 67 _∷ˢ_
+-- SType.ToSExpr, TypesToSExpr and ToString
+unfoldable pub typeToSExpr : SType → SExpr
+typeToSExpr SBool = S (ascii "Bool")
+typeToSExpr SInt = S (ascii "Int")
+typeToSExpr (SUserType decl) = S (decl .name)
+
+unfoldable pub typeList : List SType → SExprs
+typeList [] = []ˢ
+typeList (t ∷ ts) = typeToSExpr t ∷ˢ typeList ts
+
+unfoldable pub typesToSExpr : List SType → SExpr
+typesToSExpr ts = PP (typeList ts)
+
+unfoldable pub typeToString : SType → Text
+typeToString SBool = ascii "bool"
+typeToString SInt = ascii "int"
+typeToString (SUserType decl) = decl .name
+
+-- the indent is a count of spaces
+pub record SExprPrintConfig : Type 0 where
+  pub newlines : Bool
+  pub indent : ℕ
+
+-- the default argument of ToString
+unfoldable pub flat : SExprPrintConfig
+flat = record { newlines = false; indent = 0 }
+
+abbrev pub spaceByte : ℕ
+spaceByte = 0x20
+
+unfoldable pub extraIndent : SExprPrintConfig → ℕ → SExprPrintConfig
+extraIndent c n = if c .newlines then record { newlines = true; indent = c .indent + n } else c
+
+unfoldable pub space : SExprPrintConfig → Text
+space c = if c .newlines then newline ∷ replicate (c .indent) spaceByte else spaceByte ∷ []
+
+-- what a nested expression is indented by
+abbrev pub indentStep : ℕ
+indentStep = 2
+
+-- ToString of S(name)
+unfoldable pub nameToString : Text → Text
+nameToString [] = ascii "()"
+nameToString (c ∷ cs) = c ∷ cs
+
+unfoldable mutual
+  pub toString : SExpr → SExprPrintConfig → Text
+  toString (S name) c = nameToString name
+  toString (PP s) c = listToString s c
+
+  -- PP(s): the first part at the outer indent, the others deeper
+  pub listToString : SExprs → SExprPrintConfig → Text
+  listToString []ˢ c = ascii "()"
+  listToString (e ∷ˢ args) c = ascii "(" ++ toString e c ++ argsToString args (extraIndent c indentStep) ++ ascii ")"
+
+  -- s[1..], each after a space or a line end
+  pub argsToString : SExprs → SExprPrintConfig → Text
+  argsToString []ˢ c = []
+  argsToString (e ∷ˢ s) c = space c ++ toString e c ++ argsToString s c
+
+-- SExpr builders
+unfoldable pub FALSE : Text
+FALSE = ascii "false"
+
+unfoldable pub TRUE : Text
+TRUE = ascii "true"
+
+unfoldable pub EQ : Text
+EQ = ascii "="
+
+unfoldable pub NOT : Text
+NOT = ascii "not"
+
+unfoldable pub AND : Text
+AND = ascii "and"
+
+unfoldable pub boolean : Bool → SExpr
+boolean b = S (if b then TRUE else FALSE)
+
+unfoldable pub integer : ℤ → SExpr
+integer x = S (int2String x)
+
+unfoldable pub id : SConstant → SExpr
+id x = S (x .name)
+
+unfoldable pub funcAppl : Text → SExprs → SExpr
+funcAppl op []ˢ = S op
+funcAppl op (a ∷ˢ args) = PP (S op ∷ˢ a ∷ˢ args)
+
+unfoldable pub eq : SExpr → SExpr → SExpr
+eq e0 e1 = PP (S EQ ∷ˢ e0 ∷ˢ e1 ∷ˢ []ˢ)
+
+unfoldable pub negation : SExpr → SExpr
+negation e = PP (S NOT ∷ˢ e ∷ˢ []ˢ)
+
+unfoldable pub bigAnd : SExprs → SExpr
+bigAnd []ˢ = boolean true
+bigAnd (e ∷ˢ []ˢ) = e
+bigAnd (e ∷ˢ f ∷ˢ s) = PP (S AND ∷ˢ e ∷ˢ f ∷ˢ s)

@@ -1,0 +1,150 @@
+-- What the book alone gives for a node and a question, what the accepted calls alone give for the present, and a list of calls.
+-- A path is written from the node up to the root, the root left out.
+use Prim.Native.Nat.{ℕ, zero, suc, _-_}
+use mathlib.Core.Bool.{Bool, true, false}
+use mathlib.Core.List.{List, [], _∷_, _++_, reverse}
+use lib.ListN.{length, replicate, take}
+use Rattle.basics.specs.Text.{Text, if_then_else_}
+use Rattle.basics.specs.Lists.{member}
+use Rattle.basics.specs.Outcome.{Outcome, refused, accepted}
+use Rattle.book.specs.RExpr.{RExpr}
+use Rattle.book.specs.Book.{Book}
+use Rattle.book.specs.Program.{Program, nodeAt, path, depth}
+use Rattle.book.specs.Decode.{term, program}
+use Rattle.smt_engines.specs.Command.{Command, Push, Pop, CheckSat, GetModel}
+use Rattle.rsolver.specs.Step.{Step, _⨟_}
+use Rattle.rsolver.specs.LevelState.{LevelState, levelled, fresh, push, sentBy}
+use Rattle.rsolver.specs.REngine.{assume, assumeNot, declareNewSymbols, enter}
+use Rattle.solvers.specs.declared.Owed.{Owed}
+use Rattle.solvers.specs.declared.Owed.the-variants.{Nothing, Reply, Model}
+use Rattle.solvers.specs.declared.Session.{Session}
+use Rattle.solvers.specs.Session.{Written, textOf, session, freshSession, isUnsat}
+use Rattle.solvers.specs.Calls.{Host, Call, moveTo, askFor, replyWith, modelWith, call}
+use Rattle.smt_engines.specs.Reader.{Stack, first, over, lines}
+
+-- ---- WHAT THE BOOK ALONE GIVES
+-- the depth of the deepest node of one path that another has too; 0 for the root
+unfoldable pub shared : List ℕ → List ℕ → ℕ
+shared [] q = 0
+shared (m ∷ ns) q = if member m q then suc (length ns) else shared ns q
+
+module _ (p : Program) where
+  -- a fresh session's state, moved down a path
+  unfoldable pub standing : List ℕ → LevelState
+  standing [] = fresh
+  standing (n ∷ ns) = enter (levelled p) p n (standing ns)
+
+  -- a node's commands: what DeclareNewSymbols sends after the levels before, and its assertion
+  unfoldable pub settle : ℕ → Step LevelState
+  settle n = declareNewSymbols (levelled p) p (nodeAt p n .expr) ⨟ assume (levelled p) (nodeAt p n .expr)
+
+  unfoldable pub nodeCommands : ℕ → List Command
+  nodeCommands n = sentBy (settle n) (push n (standing (path p (nodeAt p n .parent))))
+
+  -- the levels of a path: an empty one, then for each node its commands
+  unfoldable pub levelsOf : List ℕ → Stack
+  levelsOf [] = first []
+  levelsOf (n ∷ ns) = over (lines (nodeCommands n)) (levelsOf ns)
+
+  -- a goal at a node: the state after its declarations, what they send, and its negated assertion
+  unfoldable pub goalState : ℕ → RExpr → LevelState
+  goalState n e = declareNewSymbols (levelled p) p e (push n (standing (path p n)))
+
+  unfoldable pub goalCommands : ℕ → RExpr → List Command
+  goalCommands n e = sentBy (declareNewSymbols (levelled p) p e) (push n (standing (path p n)))
+
+  unfoldable pub denialCommands : ℕ → RExpr → List Command
+  denialCommands n e = sentBy (assumeNot (levelled p) e) (goalState n e)
+
+  unfoldable pub goalLevels : ℕ → RExpr → Stack
+  goalLevels n e = over (lines (denialCommands n e)) (over (lines (goalCommands n e)) (levelsOf (path p n)))
+
+  -- the node's levels; while a reply or model is owed, one more with the goal's declarations and axioms, and another with its negation
+  unfoldable pub levelsFor : Owed → ℕ → RExpr → Stack
+  levelsFor Nothing n e = levelsOf (path p n)
+  levelsFor Reply n e = goalLevels n e
+  levelsFor Model n e = goalLevels n e
+
+  -- ---- THE COMMANDS OF A MOVE: pops up to the deepest node that both paths share, then for each node below it a push and its commands
+  unfoldable pub entering : List ℕ → List Command
+  entering [] = []
+  entering (n ∷ ns) = (Push ∷ nodeCommands n) ++ entering ns
+
+  unfoldable pub moveCommands : (old new : ℕ) → List Command
+  moveCommands a n =
+      let s = shared (path p a) (path p n) in
+      replicate (depth p a - s) Pop ++ entering (reverse (take (depth p n - s) (path p n)))
+
+  unfoldable pub questionCommands : ℕ → RExpr → List Command
+  questionCommands n e = (Push ∷ goalCommands n e) ++ (Push ∷ denialCommands n e) ++ (CheckSat ∷ [])
+
+-- ---- WHAT THE ACCEPTED CALLS ALONE GIVE: the present node, the open question's goal or 0, and what is owed
+pub record Present : Type 0 where
+  pub node : ℕ
+  pub goal : ℕ
+  pub owed : Owed
+
+unfoldable pub present : ℕ → ℕ → Owed → Present
+present n g o = record { node = n; goal = g; owed = o }
+
+unfoldable pub nextReply : (unsat : Bool) → Present → Present
+nextReply true w = present (w .node) 0 Nothing
+nextReply false w = present (w .node) (w .goal) Model
+
+unfoldable pub next : Present → Call → Present
+next w (moveTo h n) = present n 0 Nothing
+next w (askFor h n t) = present n t Reply
+next w (replyWith h false error) = present (w .node) 0 Nothing
+next w (replyWith h true reply) = nextReply (isUnsat reply) w
+next w (modelWith h reply model) = present (w .node) 0 Nothing
+
+-- what must be live then, and the session that a fresh one has there
+unfoldable pub nodeLevels : Book → ℕ → Stack
+nodeLevels b n = levelsOf (program b) (path (program b) n)
+
+unfoldable pub mustLive : Book → Present → Stack
+mustLive b w = levelsFor (program b) (w .owed) (w .node) (term b (w .goal))
+
+unfoldable pub sessionAt : Book → Present → Session
+sessionAt b w = session (w .node) (w .goal) (w .owed) (standing (program b) (path (program b) (w .node)) .levels)
+
+-- the commands of an accepted call, by the book and the present alone
+unfoldable pub replyCommands : (unsat : Bool) → List Command
+replyCommands true = Pop ∷ Pop ∷ []
+replyCommands false = GetModel ∷ []
+
+unfoldable pub said : Book → Present → Call → List Command
+said b w (moveTo h n) = moveCommands (program b) (w .node) n
+said b w (askFor h n t) = moveCommands (program b) (w .node) n ++ questionCommands (program b) n (term b t)
+said b w (replyWith h false error) = Pop ∷ Pop ∷ []
+said b w (replyWith h true reply) = replyCommands (isUnsat reply)
+said b w (modelWith h reply model) = Pop ∷ Pop ∷ []
+
+-- ---- A LIST OF CALLS on one book from a fresh session: each gets the session that the last one returned or left
+pub record Trace : Type 0 where
+  pub now : Session
+  pub text : Text  -- the accepted calls' texts, in order
+  pub due : Present
+
+unfoldable pub after : Trace → Call → Outcome Written → Trace
+after t c (refused k) = t
+after t c (accepted w) = record { now = w .session; text = t .text ++ textOf w; due = next (t .due) c }
+
+unfoldable pub runFrom : Book → Trace → List Call → Trace
+runFrom b t [] = t
+runFrom b t (c ∷ cs) = runFrom b (after t c (call b (t .now) c)) cs
+
+unfoldable pub start : Trace
+start = record { now = freshSession; text = []; due = present 0 0 Nothing }
+
+unfoldable pub run : Book → List Call → Trace
+run b cs = runFrom b start cs
+
+-- the call that brings a fresh session straight to the present
+unfoldable pub straightTo : Owed → Host → ℕ → ℕ → Call
+straightTo Nothing h n t = moveTo h n
+straightTo Reply h n t = askFor h n t
+straightTo Model h n t = askFor h n t
+
+unfoldable pub straight : Host → Present → Call
+straight h w = straightTo (w .owed) h (w .node) (w .goal)

@@ -1,0 +1,61 @@
+-- THE STACK RULE (demand 3): what holds of every book, that is, of every list of bytes, and of every list of calls.
+-- Its words are defined in Reader (the assertion stack) and Rule (what the book alone gives; a list of calls). Proved in proofs/Theorem.antt.
+use Prim.Native.Nat.{ℕ, _+_, _≤_}
+use mathlib.Core.Path.{_≡_}
+use mathlib.Core.Logic.{_⊎_}
+use mathlib.Core.Bool.{Bool, true, false}
+use mathlib.Core.List.{List, [], _∷_}
+use lib.ListN.{length}
+use Rattle.basics.specs.Lists.{member}
+use Rattle.basics.specs.Buffer.{scratchLeast}
+use Rattle.basics.specs.Outcome.{refused, accepted}
+use Rattle.book.specs.Book.{Book}
+use Rattle.book.specs.Program.{Program, path, depth}
+use Rattle.book.specs.Decode.{term, program}
+use Rattle.smt_engines.specs.Command.{script}
+use Rattle.solvers.specs.declared.Owed.{Owed}
+use Rattle.solvers.specs.declared.Owed.the-variants.{Nothing, Reply, Model}
+use Rattle.solvers.specs.Session.{Written, textOf}
+use Rattle.solvers.specs.Calls.{Host, Call, moveTo, call}
+use Rattle.smt_engines.specs.Reader.{live, read}
+use Rattle.solvers.specs.Rule.{standing, goalState, Present, nodeLevels, mustLive, sessionAt, said, Trace, run, straight}
+
+-- no axiom without a term was looked up on the way to the present node, nor, while a question is open, for its goal
+pub record Complete (b : Book) (w : Present) : Type 0 where
+  pub node : standing (program b) (path (program b) (w .node)) .missing ≡ false
+  pub goal : ¬ (w .owed ≡ Nothing) → goalState (program b) (w .node) (term b (w .goal)) .missing ≡ false
+
+-- two lists of calls that leave the same: the live levels, and the session but for its question
+pub record Same (t u : Trace) : Type 0 where
+  pub live : read (t .text) ≡ read (u .text)
+  pub node : t .now .node ≡ u .now .node
+  pub levels : t .now .levels ≡ u .now .levels
+
+-- the host lends scratch and text buffer enough
+pub record Enough (room : ℕ) (h : Host) : Type 0 where
+  pub scratch : scratchLeast ≤ length (h .scratch)
+  pub text : room ≤ length (h .text)
+
+pub record StackRule (b : Book) (cs : List Call) : Type 0 where
+  -- all session text so far leaves live, at each level, exactly the commands that the book gives for the present node and question
+  pub reads : read (run b cs .text) ≡ live (mustLive b (run b cs .due))
+  -- the node's own levels are exactly what a fresh session, given scratch and buffer enough and moved straight there, leaves
+  pub moved :
+      (room : ℕ)
+      × ((h : Host) → Enough room h
+      → read (run b (moveTo h (run b cs .due .node) ∷ []) .text) ≡ live (nodeLevels b (run b cs .due .node)))
+  -- and all of them what one leaves that is moved there and, while a reply or model is owed, asked the goal
+  pub fresh : (room : ℕ) × ((h : Host) → Enough room h → Same (run b cs) (run b (straight h (run b cs .due) ∷ [])))
+  -- the text of an accepted call. Of a move, also the one in an ask: the pops up to the deepest node that both paths share,
+  -- then for each node below it on the new path, downward, a push and the node's commands
+  pub texts : (c : Call) (w : Written) → call b (run b cs .now) c ≡ accepted w → textOf w ≡ script (said b (run b cs .due) c)
+  -- the session is the one that a fresh session has there, and 20 never comes
+  pub session : run b cs .now ≡ sessionAt b (run b cs .due)
+  pub never20 : (c : Call) → ¬ (call b (run b cs .now) c ≡ refused 20)
+  -- nothing that the book gives there is cut short by a missing axiom
+  pub complete : Complete b (run b cs .due)
+
+-- s is the depth of the deepest node that both paths share (the root, of depth 0, is on all); proved of `shared` in proofs/Shared.antt
+pub record Deepest (p : Program) (old new s : ℕ) : Type 0 where
+  pub most : (x : ℕ) → member x (path p old) ≡ true → member x (path p new) ≡ true → depth p x ≤ s
+  pub met : (s ≡ 0) ⊎ ((x : ℕ) × (member x (path p old) ≡ true) × (member x (path p new) ≡ true) × (depth p x ≡ s))
