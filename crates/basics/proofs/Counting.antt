@@ -1,5 +1,6 @@
 -- Tests and lists over the numbers below a bound.
 use Prim.Native.Nat.{ℕ, zero, suc, _+_, _<_, _≤_}
+use native.Mathlib.Nat.{zero-add}
 use native.Mathlib.Omega.{arith}
 use native.Mathlib.Decide.{decLt}
 use mathlib.Core.Path.{_≡_, refl, sym, ap, _∙_, subst}
@@ -30,3 +31,13 @@ pub length-up : {A : Type 0} (f : ℕ → A) (start count : ℕ) → length (map
 unfolding upTo
 length-up f start zero = refl
 length-up f start (suc count) = ap suc (length-up f (suc start) count)
+
+from-at : {A : Type 0} (f : ℕ → A) (d : A) (start count i : ℕ) → i < count → getD (map f (upTo start count)) i d ≡ f (start + i)
+unfolding upTo
+from-at f d start zero i h = absurd (omega arith)
+from-at f d start (suc count) zero h = let e : start ≡ start + 0 = omega arith in ap f e
+from-at f d start (suc count) (suc i) h =
+    from-at f d (suc start) count i (omega arith) ∙ let e : suc start + i ≡ start + suc i = omega arith in ap f e
+
+pub up-at : {A : Type 0} (f : ℕ → A) (d : A) (count i : ℕ) → i < count → getD (map f (upTo 0 count)) i d ≡ f i
+up-at f d count i h = from-at f d 0 count i h ∙ ap f (zero-add i)

@@ -3,3 +3,4 @@ pub mod All
 pub mod Counting
 pub mod Texts
 pub mod Clean
+pub mod Digits

@@ -1,0 +1,10 @@
+pub mod Outcomes
+pub mod Contents
+pub mod Ranges
+pub mod Forest
+pub mod Depth
+pub mod Promise
+pub mod Entries
+pub mod TermLaw
+pub mod EveryTerm
+pub mod Names

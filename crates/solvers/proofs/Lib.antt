@@ -1,0 +1,15 @@
+pub mod Good
+pub mod Paths
+pub mod Route
+pub mod Standing
+pub mod Contexts
+pub mod Ladders
+pub mod Questions
+pub mod Steps
+pub mod BadBook
+pub mod Holds
+pub mod Straight
+pub mod Theorem
+pub mod Shared
+pub mod ByBook
+pub mod Enough

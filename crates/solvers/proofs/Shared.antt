@@ -1,0 +1,66 @@
+-- `shared` is what demand 3 says: the depth of the deepest node that both paths have.
+use Prim.Native.Nat.{ℕ, zero, suc, _≤_}
+use mathlib.Core.Bool.{Bool, true, false, _||_, true≢false}
+use mathlib.Core.Logic.{_⊎_, inl, inr}
+use mathlib.Core.Path.{_≡_, refl, sym, ap, _∙_}
+use mathlib.Core.List.{List, [], _∷_}
+use native.Mathlib.Omega.{arith}
+use lib.Dec.{eqb}
+use lib.ListN.{length}
+use borrow.Author.Tests.{eqb-true, eq-eqb}
+use Rattle.basics.specs.Text.{if_then_else_}
+use Rattle.basics.specs.Lists.{member}
+use Rattle.basics.specs.Outcome.{accepted}
+use Rattle.book.specs.Book.{Book}
+use Rattle.book.specs.Program.{Program, path, depth}
+use Rattle.book.specs.Decode.{program}
+use Rattle.book_test.specs.BookTest.{bookTest}
+use Rattle.book_test.proofs.Promise.{promise}
+use Rattle.solvers.specs.Rule.{shared}
+use Rattle.solvers.specs.StackRule.{Deepest}
+use Rattle.solvers.proofs.Good.{good}
+use Rattle.solvers.proofs.Paths.{Chain, chain}
+
+on-depth : (B : Program) (x : ℕ) (p : List ℕ) → Chain B p → member x p ≡ true → length (path B x) ≤ length p
+unfolding member
+on-depth B x [] c h = absurd (true≢false (sym h))
+on-depth B x (m ∷ p) c h = go (eqb x m) refl (λ u. on-depth B x p (c .3) u)
+  where
+    go : (b : Bool) → eqb x m ≡ b → (member x p ≡ true → length (path B x) ≤ length p) → length (path B x) ≤ suc (length p)
+    go true e f = let k : length (m ∷ p) ≡ length (path B x) = ap length (c .2 ∙ ap (path B) (sym (eqb-true x m e))) in omega arith
+    go false e f = omega (arith, f (rw e at h))
+
+pub deepest : (B : Program) (x : ℕ) (p q : List ℕ) → Chain B p → member x p ≡ true → member x q ≡ true → length (path B x) ≤ shared p q
+unfolding member shared
+deepest B x [] q c h k = absurd (true≢false (sym h))
+deepest B x (m ∷ p) q c h k = go (member m q) refl (eqb x m) refl (λ u. deepest B x p q (c .3) u k)
+  where
+    go : (b : Bool) → member m q ≡ b → (d : Bool) → eqb x m ≡ d → (member x p ≡ true → length (path B x) ≤ shared p q)
+        → length (path B x) ≤ (if b then suc (length p) else shared p q)
+    go true e d f g = on-depth B x (m ∷ p) c h
+    go false e true f g = absurd (true≢false (sym k ∙ ap {B = Bool} (λ y. member y q) (eqb-true x m f) ∙ e))
+    go false e false f g = g (rw f at h)
+
+pub is-shared : (B : Program) (p q : List ℕ) → Chain B p
+    → (shared p q ≡ 0) ⊎ ((x : ℕ) × (member x p ≡ true) × (member x q ≡ true) × (length (path B x) ≡ shared p q))
+unfolding member shared
+is-shared B [] q c = inl refl
+is-shared B (m ∷ p) q c = go (member m q) refl (is-shared B p q (c .3))
+  where
+    go : (b : Bool) → member m q ≡ b
+        → (shared p q ≡ 0) ⊎ ((x : ℕ) × (member x p ≡ true) × (member x q ≡ true) × (length (path B x) ≡ shared p q))
+        → ((if b then suc (length p) else shared p q) ≡ 0) ⊎ ((x : ℕ) × (member x (m ∷ p) ≡ true) × (member x q ≡ true) × (length (path B x) ≡ (if b then suc (length p) else shared p q)))
+    go true e r = inr (m, rw (eq-eqb m m refl), e, ap length (sym (c .2)))
+    go false e (inl r) = inl r
+    go false e (inr r) = inr (r .0, or-right (eqb (r .0) m) (r .1), r .2, r .3)
+      where
+        or-right : (a : Bool) {b : Bool} → b ≡ true → (a || b) ≡ true
+        or-right true e = refl
+        or-right false e = e
+
+pub shared-deepest : (b : Book) → bookTest b ≡ accepted tt → (old new : ℕ) → Deepest (program b) old new (shared (path (program b) old) (path (program b) new))
+unfolding depth
+shared-deepest b ok a n =
+    let p = program b in
+    let c = chain p (good b (promise b ok)) a in
+    record { most = λ x. deepest p x (path p a) (path p n) c; met = is-shared p (path p a) (path p n) c }

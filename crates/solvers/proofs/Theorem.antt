@@ -1,0 +1,52 @@
+-- THE STACK RULE, proved for every book and every list of calls, with no hypothesis.
+use Prim.Native.Nat.{ℕ}
+use mathlib.Core.Path.{_≡_, refl, sym, ap, _∙_, subst}
+use mathlib.Core.List.{List}
+use mathlib.Core.Bool.{Bool, false}
+use Rattle.basics.specs.Outcome.{Outcome, accepted, refused}
+use Rattle.book.specs.Book.{Book}
+use Rattle.book.specs.Decode.{term, program}
+use Rattle.book_test.specs.BookTest.{bookTest}
+use Rattle.solvers.specs.declared.Owed.{Owed}
+use Rattle.solvers.specs.declared.Owed.the-variants.{Nothing, Reply, Model}
+use Rattle.solvers.specs.Session.{textOf}
+use Rattle.solvers.specs.Calls.{Call, moveTo}
+use Rattle.smt_engines.specs.Command.{script}
+use Rattle.solvers.specs.Rule.{goalState, Present, present, run, straight}
+use Rattle.solvers.specs.StackRule.{Complete, StackRule}
+use Rattle.solvers.proofs.Ladders.{test-not20}
+use Rattle.solvers.proofs.Questions.{Asks, Fits, Kept}
+use Rattle.solvers.proofs.BadBook.{rule-bad}
+use Rattle.solvers.proofs.Holds.{holds, kept, reads}
+use Rattle.solvers.proofs.Straight.{roomFor, nobody, straight-same, moved-there}
+
+module _ (b : Book) (ok : bookTest b ≡ accepted tt) where
+  complete-goal : (w : Present) (o : Owed) → Asks b w o → ¬ (o ≡ Nothing) → goalState (program b) (w .node) (term b (w .goal)) .missing ≡ false
+  complete-goal w Nothing a z = absurd (z refl)
+  complete-goal w Reply a z = a .1
+  complete-goal w Model a z = a .1
+
+  closed-fits : (w : Present) → Fits b w → Fits b (present (w .node) 0 Nothing)
+  unfolding present
+  closed-fits w f = record { inside = f .inside; clear = f .clear; asks = refl }
+
+  rule-good : (cs : List Call) → StackRule b cs
+  rule-good cs =
+      let x = holds b ok cs in
+      let w = run b cs .due in
+      record {
+        reads = reads b ok cs;
+        moved = (roomFor b (moveTo (nobody b ok) (w .node)), moved-there b ok (w .node) (closed-fits w (x .fits)));
+        fresh = (roomFor b (straight (nobody b ok) w), straight-same b ok cs);
+        texts = λ c y e. unfold textOf in ap script ((subst (Kept b w c) e (kept b ok (run b cs) x c)) .commands);
+        session = x .session;
+        never20 = λ c e. (subst (Kept b w c) e (kept b ok (run b cs) x c)) refl;
+        complete = record { node = x .fits .clear; goal = complete-goal w (w .owed) (x .fits .asks) };
+      }
+
+pub stack-rule : (b : Book) (cs : List Call) → StackRule b cs
+stack-rule b cs = at (bookTest b) refl
+  where
+    at : (o : Outcome (Unit {0})) → bookTest b ≡ o → StackRule b cs
+    at (refused k) e = rule-bad b (rw e (rw e at (test-not20 b))) cs
+    at (accepted tt) e = rule-good b e cs
