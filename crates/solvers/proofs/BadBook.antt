@@ -43,14 +43,14 @@ module _ (b : Book) (bad : Refused (bookTest b)) where
       at true = unfold refuse _>>_ in omega arith
       at false = unfold refuse _>>_ in bad
 
-  call-refused : (s : Session) (c : Call) → Refused (call b s c)
+  pub call-refused : (s : Session) (c : Call) → Refused (call b s c)
   unfolding call moveCall askCall replyCall modelCall
   call-refused s (moveTo h n) = refused-then (ready (length (h .scratch)) b) _ (not-ready (length (h .scratch)))
   call-refused s (askFor h n t) = refused-then (ready (length (h .scratch)) b) _ (not-ready (length (h .scratch)))
   call-refused s (replyWith h ok r) = refused-then (ready (length (h .scratch)) b) _ (not-ready (length (h .scratch)))
   call-refused s (modelWith h r m) = refused-then (ready (length (h .scratch)) b) _ (not-ready (length (h .scratch)))
 
-  after-refused : (t : Trace) (c : Call) (o : Outcome Written) → Refused o → after t c o ≡ t
+  pub after-refused : (t : Trace) (c : Call) (o : Outcome Written) → Refused o → after t c o ≡ t
   unfolding after
   after-refused t c (refused k) h = refl
   after-refused t c (accepted w) h = absurd h

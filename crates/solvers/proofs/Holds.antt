@@ -49,7 +49,7 @@ module _ (b : Book) (ok : bookTest b ≡ accepted tt) where
   pub kept : (t : Trace) → Holds t → (c : Call) → Kept b (t .due) c (call b (t .now) c)
   kept t x c = rw (x .session) (step-kept b G T (t .due) (x .fits) c)
 
-  holds-after : (t : Trace) → Holds t → (c : Call) (o : Outcome Written) → Kept b (t .due) c o → Holds (after t c o)
+  pub holds-after : (t : Trace) → Holds t → (c : Call) (o : Outcome Written) → Kept b (t .due) c o → Holds (after t c o)
   unfolding after
   holds-after t x c (refused k) h = x
   holds-after t x c (accepted w) h =
@@ -67,9 +67,13 @@ module _ (b : Book) (ok : bookTest b ≡ accepted tt) where
   holds-from [] t x = x
   holds-from (c ∷ cs) t x = holds-from cs (after t c (call b (t .now) c)) (holds-after t x c (call b (t .now) c) (kept t x c))
 
+  pub holds-start : Holds start
+  unfolding start rootPresent script hears hearAll lines mustLive levelsFor levelsOf path pathUp present sessionAt freshSession standing fresh
+  holds-start = record { sent = []; spelled = refl; wholes = end; heard = refl; session = refl; fits = fits-start }
+
   pub holds : (cs : List Call) → Holds (run b cs)
-  unfolding run start rootPresent script hears hearAll lines mustLive levelsFor levelsOf path pathUp present sessionAt freshSession standing fresh
-  holds cs = holds-from cs _ (record { sent = []; spelled = refl; wholes = end; heard = refl; session = refl; fits = fits-start })
+  unfolding run
+  holds cs = holds-from cs start holds-start
 
   pub reads : (cs : List Call) → read (run b cs .text) ≡ live (mustLive b (run b cs .due))
   reads cs = let x = holds cs in ap read (x .spelled) ∙ read-script (x .wholes) ∙ x .heard

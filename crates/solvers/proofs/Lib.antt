@@ -13,3 +13,5 @@ pub mod Theorem
 pub mod Shared
 pub mod ByBook
 pub mod Enough
+pub mod Image
+pub mod HostRun

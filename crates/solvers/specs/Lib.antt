@@ -2,6 +2,7 @@ pub mod Session
 pub mod Calls
 pub mod Left
 pub mod Image
+pub mod HostRun
 pub mod Rule
 pub mod StackRule
 pub mod ByBook
