@@ -177,20 +177,20 @@ module _ (p : Program) where
 
   -- ---- the walk, where every axiom's term has clean names
   module _ (clean-axioms : (k : ℕ) → EveryTerm cleanly (axiomAt p k .term)) where
-    module _ (inner : RExpr → Step LevelState) (inner-d : (e : RExpr) → CleanR e → Declares (inner e)) where
-      send-axiom-d : (k : ℕ) (fs : List ℕ) (t : Option RExpr) → EveryTerm cleanly t → Declares (sendAxiom (levelled p) p inner k fs t)
+    module _ (inner : RExpr → List ℕ → Step LevelState) (inner-d : (e : RExpr) (x : List ℕ) → CleanR e → Declares (inner e x)) where
+      send-axiom-d : (x : List ℕ) (k : ℕ) (fs : List ℕ) (t : Option RExpr) → EveryTerm cleanly t → Declares (sendAxiom (levelled p) p inner x k fs t)
       unfolding sendAxiom isDeclaredAt
-      send-axiom-d k fs none h = miss-d
-      send-axiom-d k fs (some e) h = unless-d _ (λ s l m. refl) (then-d (mark-d _) (then-d (inner-d e h) (assume-d e h)))
+      send-axiom-d x k fs none h = miss-d
+      send-axiom-d x k fs (some e) h = unless-d _ (λ s l m. refl) (then-d (mark-d _) (then-d (inner-d e [] h) (assume-d e h)))
 
-      operator-d : (op : ROperator) → CleanOperator op → Declares (declareOperator (levelled p) p inner op)
+      operator-d : (op : ROperator) (x : List ℕ) → CleanOperator op → Declares (declareOperator (levelled p) p inner op x)
       unfolding declareOperator declareFunction includeAxiom isDeclaredAt
-      operator-d (BuiltInOperator n) h = skip-d
-      operator-d (UserDefinedFunction f) h =
+      operator-d (BuiltInOperator n) x h = skip-d
+      operator-d (UserDefinedFunction f) x h =
           unless-d _ (λ s l m. refl)
           (then-d (for-d (h .inputTypes) types-d)
           (then-d (types-d (f .typ) (h .typ))
-          (then-d (then-d (send-d _ (plain-function f h)) (mark-d _)) (any-d (f .explainedBy) (λ k. send-axiom-d k _ _ (clean-axioms k))))))
+          (then-d (then-d (send-d _ (plain-function f h)) (mark-d _)) (any-d (f .explainedBy) (λ k. send-axiom-d x k _ _ (clean-axioms k))))))
 
       mutual
         unfolding declareSymbols isDeclaredAt declareConstant declareLiteral declareTypeOf
@@ -201,7 +201,7 @@ module _ (p : Program) where
         declare-d (CustomLiteral t l) x h =
             unless-d _ (λ s c m. refl) (then-d (types-d (l .typ) (h .typ)) (then-d (send-d _ (plain-literal l h)) (mark-d _)))
         declare-d (Id v) x h = unless-d _ (λ s l m. refl) (then-d (types-d (v .typ) (h .typ)) (then-d (send-d _ (plain-constant v h)) (mark-d _)))
-        declare-d (FuncAppl op args) x h = then-d (operator-d op (h .0)) (declares-d args x (h .1))
+        declare-d (FuncAppl op args) x h = then-d (operator-d op x (h .0)) (declares-d args x (h .1))
         declare-d (IfThenElse g t e) x h = then-d (declare-d g x (h .0)) (then-d (declare-d t x (h .1)) (declare-d e x (h .2)))
         declare-d (LetExpr v r b) x h =
             then-d (types-d (v .typ) (h .0 .typ)) (then-d (declare-d r x (h .1)) (declare-d b (v .number ∷ x) (h .2)))
@@ -217,12 +217,12 @@ module _ (p : Program) where
         patterns-d []ᵖ x h = skip-d
         patterns-d (q ∷ᵖ ps) x h = then-d (declares-d q x (h .0)) (patterns-d ps x (h .1))
 
-    walk-d : (fuel : ℕ) (e : RExpr) → CleanR e → Declares (walk (levelled p) p fuel e)
+    walk-d : (fuel : ℕ) (e : RExpr) (x : List ℕ) → CleanR e → Declares (walk (levelled p) p fuel e x)
     unfolding walk
-    walk-d zero e h = skip-d
-    walk-d (suc fuel) e h = declare-d _ (λ c k. walk-d fuel c k) e [] h
+    walk-d zero e x h = skip-d
+    walk-d (suc fuel) e x h = declare-d _ (λ c y k. walk-d fuel c y k) e x h
 
     -- DeclareNewSymbols
     pub symbols-d : (e : RExpr) → CleanR e → Declares (declareNewSymbols (levelled p) p e)
     unfolding declareNewSymbols
-    symbols-d e h = walk-d _ e h
+    symbols-d e h = walk-d _ e [] h

@@ -18,6 +18,7 @@ use Rattle.smt_engines.specs.Command.{Command}
 use Rattle.rsolver.specs.Step.{Step, skip, _⨟_, for, doUnless, unless}
 use Rattle.rsolver.specs.Methods.{axiom′}
 use Rattle.rsolver.specs.LevelState.{LevelState, axiomPlaces, place, joinAt, isDeclaredAt, send, declareAt, miss, levelled}
+use Rattle.rsolver.proofs.AgreeLists.{length-join}
 use Rattle.rsolver.specs.REngine.{withConstants, declareType, declareConstant, declareFunction, declareLiteral, assume, declareNewTypes, declareTypeOf, sendAxiom, includeAxiom, declareOperator, declareSymbols, declareAllSymbols, declarePatternSymbols, walk, declareNewSymbols}
 
 -- 1 for a place that is not declared
@@ -29,14 +30,6 @@ open? (suc l) = 0
 unfoldable pub undeclaredIn : (a n : ℕ) → List ℕ → ℕ
 undeclaredIn a zero ls = 0
 undeclaredIn a (suc n) ls = open? (getD ls (a + n) 0) + undeclaredIn a n ls
-
-length-join : (ls : List ℕ) (k n : ℕ) → length (joinAt ls k n) ≡ length ls
-unfolding joinAt
-length-join [] k n = refl
-length-join (zero ∷ ls) zero n = refl
-length-join (suc l ∷ ls) zero n = refl
-length-join (zero ∷ ls) (suc k) n = ap suc (length-join ls k n)
-length-join (suc l ∷ ls) (suc k) n = ap suc (length-join ls k n)
 
 join-keeps : (ls : List ℕ) (k n j : ℕ) → open? (getD (joinAt ls k (suc n)) j 0) ≤ open? (getD ls j 0)
 unfolding joinAt open?
@@ -199,36 +192,36 @@ module _ (p : Program) where
           undeclared-new axiomPlaces (length (p .axioms)) (s .levels) k m h (omega (arith, i .wide))
           (eqb-true (getD (s .levels) (axiomPlaces + k) 0) 0 (not-false _ e))
 
-  module _ (n : ℕ) (inner inner′ : RExpr → Step LevelState) (inner-f : (e : RExpr) → Falls (inner e))
-      (same : (e : RExpr) (s : LevelState) → Inside s → undeclared p s < n → inner e s ≡ inner′ e s) where
-    send-axiom-a : (k : ℕ) (fs : List ℕ) (t : Option RExpr) → k < length (p .axioms) → Agree n (sendAxiom (levelled p) p inner k fs t) (sendAxiom (levelled p) p inner′ k fs t)
+  module _ (n : ℕ) (inner inner′ : RExpr → List ℕ → Step LevelState) (inner-f : (e : RExpr) (x : List ℕ) → Falls (inner e x))
+      (same : (e : RExpr) (x : List ℕ) (s : LevelState) → Inside s → undeclared p s < n → inner e x s ≡ inner′ e x s) where
+    send-axiom-a : (x : List ℕ) (k : ℕ) (fs : List ℕ) (t : Option RExpr) → k < length (p .axioms) → Agree n (sendAxiom (levelled p) p inner x k fs t) (sendAxiom (levelled p) p inner′ x k fs t)
     unfolding sendAxiom _⨟_ place
-    send-axiom-a k fs none h = one-f miss-f
-    send-axiom-a k fs (some cond) h =
-        unless-a _ (then-f (mark-f _) (then-f (inner-f cond) (assume-f cond)))
+    send-axiom-a x k fs none h = one-f miss-f
+    send-axiom-a x k fs (some cond) h =
+        unless-a _ (then-f (mark-f _) (then-f (inner-f cond []) (assume-f cond)))
         (λ s e i l.
         ap (assume (levelled p) cond)
-        (same cond (declareAt (axiomPlaces + k) s) (mark-f (axiomPlaces + k) .stays s i) (lt-of-lt-of-le (mark-new k s i h (or-left _ _ e)) l)))
+        (same cond [] (declareAt (axiomPlaces + k) s) (mark-f (axiomPlaces + k) .stays s i) (lt-of-lt-of-le (mark-new k s i h (or-left _ _ e)) l)))
 
-    include-axiom-a : (k : ℕ) → Agree n (includeAxiom (levelled p) p inner k) (includeAxiom (levelled p) p inner′ k)
+    include-axiom-a : (x : List ℕ) (k : ℕ) → Agree n (includeAxiom (levelled p) p inner x k) (includeAxiom (levelled p) p inner′ x k)
     unfolding includeAxiom sendAxiom
-    include-axiom-a k = at (decLt k (length (p .axioms)))
+    include-axiom-a x k = at (decLt k (length (p .axioms)))
       where
-        at : Dec (k < length (p .axioms)) → Agree n (includeAxiom (levelled p) p inner k) (includeAxiom (levelled p) p inner′ k)
-        at (yes h) = send-axiom-a k (axiomAt p k .explains) (axiomAt p k .term) h
+        at : Dec (k < length (p .axioms)) → Agree n (includeAxiom (levelled p) p inner x k) (includeAxiom (levelled p) p inner′ x k)
+        at (yes h) = send-axiom-a x k (axiomAt p k .explains) (axiomAt p k .term) h
         at (no h) =
             subst
-            (λ (a : Axiom). Agree n (sendAxiom (levelled p) p inner k (a .explains) (a .term)) (sendAxiom (levelled p) p inner′ k (a .explains) (a .term)))
+            (λ (a : Axiom). Agree n (sendAxiom (levelled p) p inner x k (a .explains) (a .term)) (sendAxiom (levelled p) p inner′ x k (a .explains) (a .term)))
             (sym (List·getD-eq-default (p .axioms) (record { term = none; explains = [] }) (omega arith)))
             (one-f miss-f)
 
-    operator-a : (op : ROperator) → Agree n (declareOperator (levelled p) p inner op) (declareOperator (levelled p) p inner′ op)
+    operator-a : (op : ROperator) (x : List ℕ) → Agree n (declareOperator (levelled p) p inner op x) (declareOperator (levelled p) p inner′ op x)
     unfolding declareOperator declareFunction
-    operator-a (BuiltInOperator name) = one-f skip-f
-    operator-a (UserDefinedFunction f) =
+    operator-a (BuiltInOperator name) x = one-f skip-f
+    operator-a (UserDefinedFunction f) x =
         unless-a′ _
         (then-a (one-f (for-f (f .inputTypes) types-f))
-        (then-a (one-f (types-f (f .typ))) (then-a (one-f (told-f _ _)) (for-a (f .explainedBy) include-axiom-a))))
+        (then-a (one-f (types-f (f .typ))) (then-a (one-f (told-f _ _)) (for-a (f .explainedBy) (include-axiom-a x)))))
 
     mutual
       unfolding declareSymbols declareConstant declareLiteral declareTypeOf
@@ -238,7 +231,7 @@ module _ (p : Program) where
       declare-a (Integer z) x = one-f skip-f
       declare-a (CustomLiteral t l) x = one-f (unless-f _ (then-f (types-f (l .typ)) (told-f _ _)))
       declare-a (Id v) x = one-f (unless-f _ (then-f (types-f (v .typ)) (told-f _ _)))
-      declare-a (FuncAppl op args) x = then-a (operator-a op) (declares-a args x)
+      declare-a (FuncAppl op args) x = then-a (operator-a op x) (declares-a args x)
       declare-a (IfThenElse g t e) x = then-a (declare-a g x) (then-a (declare-a t x) (declare-a e x))
       declare-a (LetExpr v r b) x = then-a (one-f (types-f (v .typ))) (then-a (declare-a r x) (declare-a b (v .number ∷ x)))
       declare-a (QuantifierExpr u vv ps b) x =
@@ -252,22 +245,22 @@ module _ (p : Program) where
       patterns-a []ᵖ x = one-f skip-f
       patterns-a (q ∷ᵖ ps) x = then-a (declares-a q x) (patterns-a ps x)
 
-  walk-f : (fuel : ℕ) (e : RExpr) → Falls (walk (levelled p) p fuel e)
+  walk-f : (fuel : ℕ) (e : RExpr) (x : List ℕ) → Falls (walk (levelled p) p fuel e x)
   unfolding walk
-  walk-f zero e = skip-f
-  walk-f (suc fuel) e = declare-a 0 _ _ (λ c. walk-f fuel c) (λ c s i h. refl) e [] .first
+  walk-f zero e x = skip-f
+  walk-f (suc fuel) e x = declare-a 0 _ _ (λ c y. walk-f fuel c y) (λ c y s i h. refl) e x .first
 
   -- with more fuel than there are undeclared axioms, the walk is the same
-  pub fuel-free : (n fuel fuel′ : ℕ) → n < fuel → n < fuel′ → (e : RExpr) (s : LevelState) → Inside s → undeclared p s ≤ n
-      → walk (levelled p) p fuel e s ≡ walk (levelled p) p fuel′ e s
+  pub fuel-free : (n fuel fuel′ : ℕ) → n < fuel → n < fuel′ → (e : RExpr) (x : List ℕ) (s : LevelState) → Inside s → undeclared p s ≤ n
+      → walk (levelled p) p fuel e x s ≡ walk (levelled p) p fuel′ e x s
   unfolding walk
-  fuel-free n zero fuel′ h h′ e s i l = absurd (not-suc-le-zero h)
-  fuel-free n (suc f) zero h h′ e s i l = absurd (not-suc-le-zero h′)
-  fuel-free zero (suc f) (suc f′) h h′ e s i l =
-      declare-a zero _ _ (λ c. walk-f f c) (λ c t j m. absurd (not-suc-le-zero m)) e [] .agree s i l
-  fuel-free (suc n) (suc f) (suc f′) h h′ e s i l =
-      declare-a (suc n) _ _ (λ c. walk-f f c)
-      (λ c t j m. fuel-free n f f′ (le-of-suc-le-suc h) (le-of-suc-le-suc h′) c t j (le-of-suc-le-suc m)) e [] .agree s i l
+  fuel-free n zero fuel′ h h′ e x s i l = absurd (not-suc-le-zero h)
+  fuel-free n (suc f) zero h h′ e x s i l = absurd (not-suc-le-zero h′)
+  fuel-free zero (suc f) (suc f′) h h′ e x s i l =
+      declare-a zero _ _ (λ c y. walk-f f c y) (λ c y t j m. absurd (not-suc-le-zero m)) e x .agree s i l
+  fuel-free (suc n) (suc f) (suc f′) h h′ e x s i l =
+      declare-a (suc n) _ _ (λ c y. walk-f f c y)
+      (λ c y t j m. fuel-free n f f′ (le-of-suc-le-suc h) (le-of-suc-le-suc h′) c y t j (le-of-suc-le-suc m)) e x .agree s i l
 
 undeclared-most : (a n : ℕ) (ls : List ℕ) → undeclaredIn a n ls ≤ n
 unfolding undeclaredIn
@@ -280,8 +273,8 @@ undeclared-most a (suc n) ls = omega (arith, one (getD ls (a + n) 0), undeclared
 
 -- as many axioms as there are, and one more, is fuel enough
 pub fuel-enough : (p : Program) (fuel : ℕ) → length (p .axioms) < fuel → (e : RExpr) (s : LevelState) → Inside p s
-    → walk (levelled p) p fuel e s ≡ declareNewSymbols (levelled p) p e s
+    → walk (levelled p) p fuel e [] s ≡ declareNewSymbols (levelled p) p e s
 unfolding declareNewSymbols
 fuel-enough p fuel h e s i =
-    fuel-free p (length (p .axioms)) fuel (suc (length (p .axioms))) h (omega arith) e s i
+    fuel-free p (length (p .axioms)) fuel (suc (length (p .axioms))) h (omega arith) e [] s i
     (unfold undeclared in undeclared-most axiomPlaces (length (p .axioms)) (s .levels))

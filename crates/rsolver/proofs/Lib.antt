@@ -1,3 +1,13 @@
 pub mod Levels
 pub mod Declares
 pub mod Fuel
+pub mod Worked
+pub mod Placed
+pub mod Sets
+pub mod AgreeLists
+pub mod Agree
+pub mod AgreeWalk
+pub mod AgreeContext
+pub mod Contracts
+pub mod ContractsWalk
+pub mod ContractsContext

@@ -52,26 +52,27 @@ module _ {S : Type 0} (M : Methods S) where
   declareTypeOf v = declareNewTypes (v .typ)
 
   module _ (p : Program) where
-    -- DeclareNewSymbols; `inner` is the same for an axiom's term, with nothing excluded
-    module _ (inner : RExpr → Step S) where
-      -- an axiom that is not in axiomMap is missed, whether or not it would be sent
-      unfoldable pub sendAxiom : ℕ → List ℕ → Option RExpr → Step S
-      sendAxiom k explains none = M .miss
-      sendAxiom k explains (some cond) =
+    -- DeclareNewSymbols; `inner` is the same for an axiom's term
+    module _ (inner : RExpr → (exclude : List ℕ) → Step S) where
+      -- An axiom that is not in axiomMap is missed, whether or not it would be sent. The exclusions in force, which the body has in
+      -- scope here, are not those of the axiom: nothing is excluded in it.
+      unfoldable pub sendAxiom : (exclude : List ℕ) → ℕ → List ℕ → Option RExpr → Step S
+      sendAxiom exclude k explains none = M .miss
+      sendAxiom exclude k explains (some cond) =
           unless (λ s. M .isDeclared (axiom′ k) s || not (all explains (λ f. M .isDeclared (function f) s)))
-          (M .addDeclarationMarker (axiom′ k) ⨟ inner cond ⨟ assume cond)
+          (M .addDeclarationMarker (axiom′ k) ⨟ inner cond [] ⨟ assume cond)
 
-      unfoldable pub includeAxiom : ℕ → Step S
-      includeAxiom k = sendAxiom k (axiomAt p k .explains) (axiomAt p k .term)
+      unfoldable pub includeAxiom : (exclude : List ℕ) → ℕ → Step S
+      includeAxiom exclude k = sendAxiom exclude k (axiomAt p k .explains) (axiomAt p k .term)
 
-      unfoldable pub declareOperator : ROperator → Step S
-      declareOperator (BuiltInOperator name) = skip
-      declareOperator (UserDefinedFunction func) =
+      unfoldable pub declareOperator : ROperator → (exclude : List ℕ) → Step S
+      declareOperator (BuiltInOperator name) exclude = skip
+      declareOperator (UserDefinedFunction func) exclude =
           unless (M .isDeclared (function (func .number)))
           (for (func .inputTypes) declareNewTypes
           ⨟ declareNewTypes (func .typ)
           ⨟ declareFunction func
-          ⨟ for (func .explainedBy) includeAxiom)
+          ⨟ for (func .explainedBy) (includeAxiom exclude))
 
       unfoldable mutual
         pub declareSymbols : RExpr → (exclude : List ℕ) → Step S
@@ -82,7 +83,7 @@ module _ {S : Type 0} (M : Methods S) where
         declareSymbols (Id v) exclude =
             unless (λ s. member (v .number) exclude || M .isDeclared (constant (v .number)) s)
             (declareNewTypes (v .typ) ⨟ declareConstant v)
-        declareSymbols (FuncAppl op args) exclude = declareOperator op ⨟ declareAllSymbols args exclude
+        declareSymbols (FuncAppl op args) exclude = declareOperator op exclude ⨟ declareAllSymbols args exclude
         declareSymbols (IfThenElse guard thn els) exclude =
             declareSymbols guard exclude ⨟ declareSymbols thn exclude ⨟ declareSymbols els exclude
         declareSymbols (LetExpr v rhs body) exclude =
@@ -101,12 +102,12 @@ module _ {S : Type 0} (M : Methods S) where
         declarePatternSymbols (t ∷ᵖ ts) exclude = declareAllSymbols t exclude ⨟ declarePatternSymbols ts exclude
 
     -- an axiom is sent once, so walks nest no deeper than there are axioms
-    unfoldable pub walk : (fuel : ℕ) → RExpr → Step S
-    walk zero e = skip
-    walk (suc fuel) e = declareSymbols (λ cond. walk fuel cond) e []
+    unfoldable pub walk : (fuel : ℕ) → RExpr → (exclude : List ℕ) → Step S
+    walk zero e exclude = skip
+    walk (suc fuel) e exclude = declareSymbols (λ cond x. walk fuel cond x) e exclude
 
     unfoldable pub declareNewSymbols : RExpr → Step S
-    declareNewSymbols e = walk (suc (length (p .axioms))) e
+    declareNewSymbols e = walk (suc (length (p .axioms))) e []
 
     -- the last three statements of AdjustContext
     unfoldable pub enter : ℕ → Step S

@@ -55,7 +55,7 @@ module _ (b : Book) (bad : Refused (bookTest b)) where
   after-refused t c (refused k) h = refl
   after-refused t c (accepted w) h = absurd h
 
-  run-refused : (t : Trace) (cs : List Call) → runFrom b t cs ≡ t
+  pub run-refused : (t : Trace) (cs : List Call) → runFrom b t cs ≡ t
   unfolding runFrom
   run-refused t [] = refl
   run-refused t (c ∷ cs) = ap (λ (u : Trace). runFrom b u cs) (after-refused t c (call b (t .now) c) (call-refused (t .now) c)) ∙ run-refused t cs

@@ -10,15 +10,16 @@ use borrow.Author.Tests.{ltb-true, ltb-false}
 use Rattle.book.specs.RExpr.{RExpr}
 use Rattle.book.specs.Program.{Program, nodeAt, pathUp, path, depth}
 use Rattle.solver_expr.proofs.Clean.{CleanR}
-use Rattle.smt_engines.specs.Command.{Command, Push, CheckSat}
+use Rattle.smt_engines.specs.Command.{Command, Push, Pop, CheckSat}
 use Rattle.rsolver.specs.Step.{Step, skip, _⨟_, doUnless, unless, doEither, either}
-use Rattle.rsolver.specs.LevelState.{LevelState, levelled, fresh, isTop, push, pop, send}
-use Rattle.rsolver.specs.REngine.{assumeNot, declareNewSymbols, enter, adjustContext, popTimes, setContext, askGoal}
-use Rattle.rsolver.proofs.Declares.{Declares, sent-by, symbols-d, assume-not-d}
+use Rattle.rsolver.specs.LevelState.{LevelState, levelled, fresh, forget, isTop, push, pop, send}
+use Rattle.rsolver.specs.REngine.{closeGoal, assumeNot, declareNewSymbols, enter, adjustContext, popTimes, setContext, askGoal}
+use Rattle.rsolver.proofs.Declares.{Declares, sent-by, missing-down, symbols-d, assume-not-d}
+use Rattle.rsolver.proofs.Levels.{Grown, forget-grown}
 use Rattle.solvers.specs.Rule.{standing, moveCommands, goalState, goalCommands, denialCommands, questionCommands}
 use Rattle.solvers.proofs.Good.{Good}
 use Rattle.solvers.proofs.Paths.{Chain, chain, up, down, adjust, ops}
-use Rattle.solvers.proofs.Standing.{sending, blind-sending, exec, exec-append, standing-stack, travel}
+use Rattle.solvers.proofs.Standing.{sending, blind-sending, exec, exec-append, standing-stack, standing-within, travel}
 
 regroup : (l g d : List Command) → l ++ (Push ∷ []) ++ g ++ (Push ∷ []) ++ d ++ (CheckSat ∷ []) ≡ l ++ ((Push ∷ g) ++ (Push ∷ d) ++ (CheckSat ∷ []))
 regroup l g d = simp append-assoc
@@ -108,3 +109,20 @@ module _ (p : Program) (G : Good p) where
         ∙ ap (λ (x : LevelState). send CheckSat x) (blind-sending N (l ++ (Push ∷ []) ++ D .more t ++ (Push ∷ [])) g)
         ∙ ap {B = LevelState} (λ c. sending c (assumeNot (levelled p) e g))
         (regroup l (D .more t) (N .more g) ∙ (λ i. l ++ ((Push ∷ goal i) ++ (Push ∷ denial i) ++ (CheckSat ∷ []))))
+
+    -- and closed again
+    pub close-at : goalState p n e .missing ≡ false → (l : List Command)
+        → closeGoal (levelled p) (sending l (assumeNot (levelled p) e (goalState p n e))) ≡ sending (l ++ (Pop ∷ Pop ∷ [])) (standing p (path p n))
+    unfolding closeGoal _⨟_ pop send assumeNot goalState push
+    close-at m l =
+        let D = symbols-d p (G .axioms) e h in
+        let ns = path p n in
+        let t : LevelState = push n (standing p ns) in
+        let e₁ : t .stack ≡ n ∷ ns = unfold push in ap (λ (st : List ℕ). n ∷ st) (standing-stack p G ns) in
+        let stack : declareNewSymbols (levelled p) p e t .stack ≡ n ∷ ns = D .stack t ∙ e₁ in
+        let grown : Grown (suc (length ns)) (standing p ns .levels) (declareNewSymbols (levelled p) p e t .levels) =
+        unfold push in subst (λ (st : List ℕ). Grown (length st) (standing p ns .levels) (declareNewSymbols (levelled p) p e t .levels)) e₁ (D .grows t) in
+        let levels : forget (length (declareNewSymbols (levelled p) p e t .stack)) (declareNewSymbols (levelled p) p e t .levels) ≡ standing p ns .levels =
+        ap (λ (st : List ℕ). forget (length st) (declareNewSymbols (levelled p) p e t .levels)) stack ∙ forget-grown grown (standing-within p G ns) in
+        let missing : declareNewSymbols (levelled p) p e t .missing ≡ standing p ns .missing = m ∙ sym (missing-down D t m) in
+        λ i. record { stack = (ap tail stack ∙ sym (standing-stack p G ns)) i; levels = levels i; missing = missing i; sent = append-assoc l (Pop ∷ []) (Pop ∷ []) i }

@@ -27,7 +27,7 @@ levels-length p G (n ∷ ns) = grown-length (grown-at p G n ns) ∙ levels-lengt
 
 -- at every node of a book that passes the test, and for a goal there
 pub enough : (b : Book) → bookTest b ≡ accepted tt → (n : ℕ) (ns : List ℕ) (e : RExpr) (fuel : ℕ) → length (program b .axioms) < fuel
-    → walk (levelled (program b)) (program b) fuel e (push n (standing (program b) ns))
+    → walk (levelled (program b)) (program b) fuel e [] (push n (standing (program b) ns))
     ≡ declareNewSymbols (levelled (program b)) (program b) e (push n (standing (program b) ns))
 unfolding push
 enough b ok n ns e fuel h =

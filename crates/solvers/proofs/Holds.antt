@@ -49,13 +49,13 @@ module _ (b : Book) (ok : bookTest b ≡ accepted tt) where
   pub kept : (t : Trace) → Holds t → (c : Call) → Kept b (t .due) c (call b (t .now) c)
   kept t x c = rw (x .session) (step-kept b G T (t .due) (x .fits) c)
 
-  pub holds-after : (t : Trace) → Holds t → (c : Call) (o : Outcome Written) → Kept b (t .due) c o → Holds (after t c o)
-  unfolding after
+  unfoldable pub holds-after : (t : Trace) → Holds t → (c : Call) (o : Outcome Written) → Kept b (t .due) c o → Holds (after t c o)
+  unfolding after textOf
   holds-after t x c (refused k) h = x
   holds-after t x c (accepted w) h =
       record {
         sent = x .sent ++ said b (t .due) c;
-        spelled = unfold textOf in rw (x .spelled, h .commands) (sym (script-append (x .sent) (said b (t .due) c)));
+        spelled = rw (x .spelled, h .commands) (sym (script-append (x .sent) (said b (t .due) c)));
         wholes = all-append (x .wholes) (h .wholes);
         heard = hears-append (live (first [])) (x .sent) (said b (t .due) c) ∙ ap (λ r. hears r (said b (t .due) c)) (x .heard) ∙ h .heard;
         session = h .session;
@@ -67,7 +67,7 @@ module _ (b : Book) (ok : bookTest b ≡ accepted tt) where
   holds-from [] t x = x
   holds-from (c ∷ cs) t x = holds-from cs (after t c (call b (t .now) c)) (holds-after t x c (call b (t .now) c) (kept t x c))
 
-  pub holds-start : Holds start
+  unfoldable pub holds-start : Holds start
   unfolding start rootPresent script hears hearAll lines mustLive levelsFor levelsOf path pathUp present sessionAt freshSession standing fresh
   holds-start = record { sent = []; spelled = refl; wholes = end; heard = refl; session = refl; fits = fits-start }
 

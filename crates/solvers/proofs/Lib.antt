@@ -9,9 +9,11 @@ pub mod Steps
 pub mod BadBook
 pub mod Holds
 pub mod Straight
-pub mod Theorem
 pub mod Shared
 pub mod ByBook
 pub mod Enough
 pub mod Image
 pub mod HostRun
+pub mod PlacedBook
+pub mod Bodies
+pub mod Theorem

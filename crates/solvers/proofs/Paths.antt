@@ -45,6 +45,10 @@ module _ (B : Program) (L : Good B) where
   unfolding path
   chain n = chain-up n n (omega arith)
 
+  pub path-step : (n : ℕ) → path B (suc n) ≡ suc n ∷ path B (nodeAt B (suc n) .parent)
+  unfolding path pathUp
+  path-step n = ap {B = List ℕ} (λ r. suc n ∷ r) (up-same n (nodeAt B (suc n) .parent) (nodeAt B (suc n) .parent) (L .parents n) (omega arith))
+
 -- SetContext and AdjustContext as a list of operations, from the stack of memos p to the context whose path is q
 pub data Op : Type 0 where
   up : Op

@@ -25,7 +25,8 @@ use Rattle.rsolver.proofs.Declares.{symbols-d, assume-not-d, sent-by, missing-d
 use Rattle.solvers.specs.declared.Owed.{Owed}
 use Rattle.solvers.specs.declared.Owed.the-variants.{Nothing, Reply, Model}
 use Rattle.solvers.specs.Session.{Written, resume, moved, asked}
-use Rattle.solvers.specs.Calls.{owes, goalFits, isSession, Call}
+use Rattle.solvers.specs.Calls.{owes, goalFits, isSession, Call, moveTo, askFor, replyWith, modelWith}
+use Rattle.solvers.specs.Bodies.{doCall}
 use Rattle.solvers.specs.Rule.{standing, goalState, goalCommands, denialCommands, moveCommands, questionCommands, Present, next, mustLive, sessionAt, said}
 use Rattle.book.proofs.Terms.{contexts-length, literals-length}
 use Rattle.solvers.proofs.Good.{Good}
@@ -43,6 +44,22 @@ pub record Fits (b : Book) (w : Present) : Type 0 where
   pub clear : standing (program b) (path (program b) (w .node)) .missing ≡ false
   pub asks : Asks b w (w .owed)
 
+-- the solver's state at the present, with the question's declarations while one is open
+unfoldable pub stateFor : Book → Owed → Present → LevelState
+stateFor b Nothing w = standing (program b) (path (program b) (w .node))
+stateFor b Reply w = assumeNot (levelled (program b)) (term b (w .goal)) (goalState (program b) (w .node) (term b (w .goal)))
+stateFor b Model w = assumeNot (levelled (program b)) (term b (w .goal)) (goalState (program b) (w .node) (term b (w .goal)))
+
+unfoldable pub stateAt : Book → Present → LevelState
+stateAt b w = stateFor b (w .owed) w
+
+-- an accepted ask's goal is in the book
+abbrev pub GoalIn : Book → Call → Type 0
+GoalIn b (moveTo h n) = Unit {0}
+GoalIn b (askFor h n t) = t < size b terms
+GoalIn b (replyWith h ok r) = Unit {0}
+GoalIn b (modelWith h r m) = Unit {0}
+
 -- what an accepted call leaves
 pub record Leaves (b : Book) (w : Present) (c : Call) (x : Written) : Type 0 where
   pub commands : x .commands ≡ said b w c
@@ -50,6 +67,9 @@ pub record Leaves (b : Book) (w : Present) (c : Call) (x : Written) : Type 0 whe
   pub fits : Fits b (next w c)
   pub heard : hears (live (mustLive b w)) (said b w c) ≡ live (mustLive b (next w c))
   pub wholes : All Whole (said b w c)
+  -- the bodies' methods, on a state with levels that is kept from call to call
+  pub state : (l : List Command) → doCall (levelled (program b)) b c (sending l (stateAt b w)) ≡ sending (l ++ said b w c) (stateAt b (next w c))
+  pub goalIn : GoalIn b c
 
 abbrev pub Kept : Book → Present → Call → Outcome Written → Type 0
 Kept b w c (refused k) = k ≡ 20 → ⊥

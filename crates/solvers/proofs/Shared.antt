@@ -10,15 +10,10 @@ use lib.ListN.{length}
 use borrow.Author.Tests.{eqb-true, eq-eqb}
 use Rattle.basics.specs.Text.{if_then_else_}
 use Rattle.basics.specs.Lists.{member}
-use Rattle.basics.specs.Outcome.{accepted}
-use Rattle.book.specs.Book.{Book}
 use Rattle.book.specs.Program.{Program, path, depth}
-use Rattle.book.specs.Decode.{program}
-use Rattle.book_test.specs.BookTest.{bookTest}
-use Rattle.book_test.proofs.Promise.{promise}
 use Rattle.solvers.specs.Rule.{shared}
 use Rattle.solvers.specs.StackRule.{Deepest}
-use Rattle.solvers.proofs.Good.{good}
+use Rattle.solvers.proofs.Good.{Good}
 use Rattle.solvers.proofs.Paths.{Chain, chain}
 
 on-depth : (B : Program) (x : ℕ) (p : List ℕ) → Chain B p → member x p ≡ true → length (path B x) ≤ length p
@@ -58,9 +53,8 @@ is-shared B (m ∷ p) q c = go (member m q) refl (is-shared B p q (c .3))
         or-right true e = refl
         or-right false e = e
 
-pub shared-deepest : (b : Book) → bookTest b ≡ accepted tt → (old new : ℕ) → Deepest (program b) old new (shared (path (program b) old) (path (program b) new))
+pub deepest-shared : (p : Program) → Good p → (old new : ℕ) → Deepest p old new (shared (path p old) (path p new))
 unfolding depth
-shared-deepest b ok a n =
-    let p = program b in
-    let c = chain p (good b (promise b ok)) a in
+deepest-shared p G a n =
+    let c = chain p G a in
     record { most = λ x. deepest p x (path p a) (path p n) c; met = is-shared p (path p a) (path p n) c }

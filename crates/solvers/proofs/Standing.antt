@@ -57,7 +57,7 @@ module _ (p : Program) (G : Good p) where
       subst (λ (l : List ℕ). Grown (suc (length l)) (standing p ns .levels) (standing p (n ∷ ns) .levels)) (standing-stack ns)
       (settled n .grows (push n (standing p ns)))
 
-  standing-within : (ns : List ℕ) → Within (length ns) (standing p ns .levels)
+  pub standing-within : (ns : List ℕ) → Within (length ns) (standing p ns .levels)
   unfolding standing fresh noLevels
   standing-within [] = within-zeros levelCount 0
   standing-within (n ∷ ns) = grown-within (grown-at n ns) (standing-within ns)

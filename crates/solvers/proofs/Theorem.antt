@@ -1,19 +1,29 @@
--- THE STACK RULE, proved for every book and every list of calls, with no hypothesis.
+-- THE STACK RULE and what stands beside it in specs/StackRule.antt, proved for every book and every list of calls.
 use Prim.Native.Nat.{ℕ}
 use mathlib.Core.Path.{_≡_, refl, sym, ap, _∙_, subst}
 use mathlib.Core.List.{List}
 use mathlib.Core.Bool.{Bool, false}
 use Rattle.basics.specs.Outcome.{Outcome, accepted, refused}
 use Rattle.book.specs.Book.{Book}
+use Rattle.book.specs.Program.{path}
 use Rattle.book.specs.Decode.{term, program}
 use Rattle.book_test.specs.BookTest.{bookTest}
+use Rattle.book_test.proofs.Promise.{promise}
+use Rattle.book_test.proofs.TermLaw.{term-over}
 use Rattle.solvers.specs.declared.Owed.{Owed}
 use Rattle.solvers.specs.declared.Owed.the-variants.{Nothing, Reply, Model}
 use Rattle.solvers.specs.Session.{textOf}
 use Rattle.solvers.specs.Calls.{Call, moveTo}
 use Rattle.smt_engines.specs.Command.{script}
-use Rattle.solvers.specs.Rule.{goalState, Present, present, run, straight}
-use Rattle.solvers.specs.StackRule.{Complete, StackRule}
+use Rattle.solvers.specs.HostRun.{HostTrace}
+use Rattle.solvers.specs.Rule.{goalState, shared, Present, present, run, straight}
+use Rattle.solvers.specs.StackRule.{Complete, StackRule, Seen, NoFallback, Deepest}
+use Rattle.solvers.proofs.Good.{good}
+use Rattle.solvers.proofs.Paths.{path-step}
+use Rattle.solvers.proofs.Shared.{deepest-shared}
+use Rattle.solvers.proofs.Enough.{levels-length, enough}
+use Rattle.solvers.proofs.HostRun.{host-run}
+use Rattle.solvers.proofs.Bodies.{bodies-send}
 use Rattle.solvers.proofs.Ladders.{test-not20}
 use Rattle.solvers.proofs.Questions.{Asks, Fits, Kept}
 use Rattle.solvers.proofs.BadBook.{rule-bad}
@@ -50,3 +60,23 @@ stack-rule b cs = at (bookTest b) refl
     at : (o : Outcome (Unit {0})) → bookTest b ≡ o → StackRule b cs
     at (refused k) e = rule-bad b (rw e (rw e at (test-not20 b))) cs
     at (accepted tt) e = rule-good b e cs
+
+pub seen : (b : Book) (cs : List Call) → Seen b cs
+seen b cs =
+    record {
+      image = ap (λ (t : HostTrace). t .image) (host-run b cs);
+      sent = ap (λ (t : HostTrace). t .text) (host-run b cs);
+      bodies = bodies-send b cs;
+    }
+
+pub no-fallback : (b : Book) → bookTest b ≡ accepted tt → NoFallback b
+no-fallback b ok =
+    record {
+      terms = term-over b (promise b ok);
+      paths = λ n. path-step (program b) (good b (promise b ok)) n;
+      walks = enough b ok;
+      levels = levels-length (program b) (good b (promise b ok));
+    }
+
+pub shared-deepest : (b : Book) → bookTest b ≡ accepted tt → (old new : ℕ) → Deepest (program b) old new (shared (path (program b) old) (path (program b) new))
+shared-deepest b ok = deepest-shared (program b) (good b (promise b ok))

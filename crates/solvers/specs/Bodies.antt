@@ -1,38 +1,41 @@
--- The accepted calls of a list, done by the Dafny bodies on one SolverState that is kept from call to call.
+-- The accepted calls of a list, done by the methods of the Dafny classes on one solver state that is kept from call to call. With
+-- `bodies` it is the Dafny's own state; proofs/Bodies.antt shows that it sends what the session's calls send.
 use mathlib.Core.List.{List, [], _∷_}
 use mathlib.Core.Bool.{Bool, true, false}
 use Rattle.basics.specs.Outcome.{Outcome, refused, accepted}
 use Rattle.book.specs.Book.{Book}
 use Rattle.book.specs.Decode.{term, program}
 use Rattle.rsolver.specs.Step.{Step, _⨟_}
+use Rattle.rsolver.specs.Methods.{Methods}
 use Rattle.rsolver.specs.SolverState.{SolverState, newSolver, bodies}
 use Rattle.rsolver.specs.REngine.{setContext, askGoal, askModel, closeGoal}
-use Rattle.solvers.specs.declared.Session.{Session}
 use Rattle.solvers.specs.Session.{Written, isUnsat}
 use Rattle.solvers.specs.Calls.{Call, moveTo, askFor, replyWith, modelWith, call}
 use Rattle.solvers.specs.Rule.{Trace, after, start}
 
--- what Solvers.dfy's Prove does when the check answers
-unfoldable pub onReply : (unsat : Bool) → Step SolverState
-onReply true = closeGoal bodies
-onReply false = askModel bodies
+module _ {S : Type 0} (M : Methods S) (b : Book) where
+  -- what Solvers.dfy's Prove does when the check answers
+  unfoldable pub onReply : (unsat : Bool) → Step S
+  onReply true = closeGoal M
+  onReply false = askModel M
 
--- SetContext; SetContext and Prove up to the check; what Prove does behind it
-unfoldable pub doCall : Book → Call → Step SolverState
-doCall b (moveTo h node) = setContext bodies (program b) node
-doCall b (askFor h node goal) = setContext bodies (program b) node ⨟ askGoal bodies (program b) node (term b goal)
-doCall b (replyWith h false error) = closeGoal bodies
-doCall b (replyWith h true reply) = onReply (isUnsat reply)
-doCall b (modelWith h reply model) = closeGoal bodies
+  -- SetContext; SetContext and Prove up to the check; what Prove does behind it
+  unfoldable pub doCall : Call → Step S
+  doCall (moveTo h node) = setContext M (program b) node
+  doCall (askFor h node goal) = setContext M (program b) node ⨟ askGoal M (program b) node (term b goal)
+  doCall (replyWith h false error) = closeGoal M
+  doCall (replyWith h true reply) = onReply (isUnsat reply)
+  doCall (modelWith h reply model) = closeGoal M
 
--- a refused call does nothing
-unfoldable pub doIfAccepted : Book → Call → Outcome Written → Step SolverState
-doIfAccepted b c (refused k) s = s
-doIfAccepted b c (accepted w) s = doCall b c s
+  -- a refused call does nothing
+  unfoldable pub doIfAccepted : Call → Outcome Written → Step S
+  doIfAccepted c (refused k) s = s
+  doIfAccepted c (accepted w) s = doCall c s
 
-unfoldable pub doFrom : Book → Trace → List Call → Step SolverState
-doFrom b t [] s = s
-doFrom b t (c ∷ cs) s = let o = call b (t .now) c in doFrom b (after t c o) cs (doIfAccepted b c o s)
+  -- the trace says which calls are accepted
+  unfoldable pub doFrom : Trace → List Call → Step S
+  doFrom t [] s = s
+  doFrom t (c ∷ cs) s = doFrom (after t c (call b (t .now) c)) cs (doIfAccepted c (call b (t .now) c) s)
 
 unfoldable pub doAll : Book → List Call → SolverState
-doAll b cs = doFrom b start cs newSolver
+doAll b cs = doFrom bodies b start cs newSolver

@@ -4,6 +4,6 @@ pub mod Left
 pub mod Image
 pub mod HostRun
 pub mod Rule
+pub mod Bodies
 pub mod StackRule
 pub mod ByBook
-pub mod Bodies

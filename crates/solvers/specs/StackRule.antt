@@ -1,6 +1,7 @@
 -- THE STACK RULE (demand 3): what holds of every book, that is, of every list of bytes, and of every list of calls.
--- Its words are defined in Reader (the assertion stack) and Rule (what the book alone gives; a list of calls). Proved in proofs/Theorem.antt.
-use Prim.Native.Nat.{ℕ, _+_, _≤_}
+-- Its words are defined in smt_engines/specs/Reader (the assertion stack) and in Rule (what the book alone gives; a list of calls).
+-- Proved in proofs/Theorem.antt: stack-rule, seen, no-fallback, shared-deepest. No statement has a hypothesis but the one it shows.
+use Prim.Native.Nat.{ℕ, suc, _≤_, _<_}
 use mathlib.Core.Path.{_≡_}
 use mathlib.Core.Logic.{_⊎_}
 use mathlib.Core.Bool.{Bool, true, false}
@@ -9,15 +10,20 @@ use lib.ListN.{length}
 use Rattle.basics.specs.Lists.{member}
 use Rattle.basics.specs.Buffer.{scratchLeast}
 use Rattle.basics.specs.Outcome.{refused, accepted}
-use Rattle.book.specs.Book.{Book}
-use Rattle.book.specs.Program.{Program, path, depth}
-use Rattle.book.specs.Decode.{term, program}
+use Rattle.book.specs.RExpr.{RExpr}
+use Rattle.book.specs.Book.{Book, terms, size}
+use Rattle.book.specs.Program.{Program, nodeAt, path, depth}
+use Rattle.book.specs.Decode.{termOver, term, program}
 use Rattle.smt_engines.specs.Command.{script}
-use Rattle.solvers.specs.declared.Owed.{Owed}
-use Rattle.solvers.specs.declared.Owed.the-variants.{Nothing, Reply, Model}
+use Rattle.rsolver.specs.LevelState.{levelCount, levelled, push}
+use Rattle.rsolver.specs.REngine.{walk, declareNewSymbols}
+use Rattle.solvers.specs.declared.Owed.the-variants.{Nothing}
 use Rattle.solvers.specs.Session.{Written, textOf}
 use Rattle.solvers.specs.Calls.{Host, Call, moveTo, call}
 use Rattle.smt_engines.specs.Reader.{live, read}
+use Rattle.solvers.specs.Image.{writeImage}
+use Rattle.solvers.specs.HostRun.{hostRun}
+use Rattle.solvers.specs.Bodies.{doAll}
 use Rattle.solvers.specs.Rule.{standing, goalState, Present, nodeLevels, mustLive, sessionAt, said, Trace, run, straight}
 
 -- no axiom without a term was looked up on the way to the present node, nor, while a question is open, for its goal
@@ -55,7 +61,30 @@ pub record StackRule (b : Book) (cs : List Call) : Type 0 where
   -- nothing that the book gives there is cut short by a missing axiom
   pub complete : Complete b (run b cs .due)
 
--- s is the depth of the deepest node that both paths share (the root, of depth 0, is on all); proved of `shared` in proofs/Shared.antt
+-- ---- THE SAME LIST OF CALLS, SEEN FROM TWO OTHER SIDES
+pub record Seen (b : Book) (cs : List Call) : Type 0 where
+  -- the host holds the session's image, and takes of each text buffer as many bytes as the answer says
+  pub image : hostRun b cs .image ≡ writeImage (run b cs .now)
+  pub sent : hostRun b cs .text ≡ run b cs .text
+  -- the Dafny bodies, on one SolverState with its sets and their copies, kept from call to call, send the same text (demand 2)
+  pub bodies : script (doAll b cs .sent) ≡ run b cs .text
+
+-- ---- NO DEFINITION IS EVER AT ITS END, on a book that passes the test
+pub record NoFallback (b : Book) : Type 0 where
+  -- a term is what its record says over its children
+  pub terms : (t : ℕ) → t < size b terms → term b t ≡ termOver b (term b) t
+  -- a node's path is the node and its parent's path
+  pub paths : (n : ℕ) → path (program b) (suc n) ≡ suc n ∷ path (program b) (nodeAt (program b) (suc n) .parent)
+  -- more fuel changes no walk, at any node and for any goal there
+  pub walks :
+      (n : ℕ) (ns : List ℕ) (e : RExpr) (fuel : ℕ) → length (program b .axioms) < fuel
+      → walk (levelled (program b)) (program b) fuel e [] (push n (standing (program b) ns))
+      ≡ declareNewSymbols (levelled (program b)) (program b) e (push n (standing (program b) ns))
+  -- the levels have all their places
+  pub levels : (ns : List ℕ) → length (standing (program b) ns .levels) ≡ levelCount
+
+-- ---- THE DEEPEST NODE THAT BOTH PATHS SHARE
+-- s is the depth of the deepest node that both paths share (the root, of depth 0, is on all); proved of `shared`
 pub record Deepest (p : Program) (old new s : ℕ) : Type 0 where
   pub most : (x : ℕ) → member x (path p old) ≡ true → member x (path p new) ≡ true → depth p x ≤ s
   pub met : (s ≡ 0) ⊎ ((x : ℕ) × (member x (path p old) ≡ true) × (member x (path p new) ≡ true) × (depth p x ≡ s))

@@ -1,0 +1,280 @@
+//! Random books that pass the book test, from tiny ones to every section at
+//! its limit.
+
+use crate::book::{Section, FIRST_USER_TYPE, NO_TERM};
+use crate::book_test::{FIRST_LETTER, LAST_LETTER, MOST_DEPTH};
+use crate::maker::Maker;
+use crate::random::{Random, AT_TIMES, HARDLY_EVER, OFTEN, RARELY};
+
+/// How many records each section is to have.
+#[derive(Clone, Copy, Debug)]
+pub struct Counts([usize; Section::ALL.len()]);
+
+impl Counts {
+    /// How much larger a section is than the others in a book of one size.
+    const WEIGHTS: [usize; Section::ALL.len()] = [4, 2, 1, 1, 1, 1, 1, 6, 2, 12];
+
+    pub fn limits() -> Counts {
+        Counts(Section::ALL.map(Section::most))
+    }
+
+    /// Each section up to its weight times `size`, within its limit.
+    pub fn random(random: &mut Random, size: usize) -> Counts {
+        Counts(Section::ALL.map(|section| {
+            let most = size * Counts::WEIGHTS[section as usize];
+            random.up_to(most.min(section.most()))
+        }))
+    }
+
+    pub fn of(&self, section: Section) -> usize {
+        self.0[section as usize]
+    }
+}
+
+/// A random book with the wanted counts. Without names there are no types,
+/// constants and functions; contexts are as many as there are terms for.
+pub fn random_book(random: &mut Random, counts: Counts) -> Maker {
+    let mut writer = Writer {
+        missing_axioms: random.one_in(AT_TIMES),
+        nested: random.one_in(AT_TIMES),
+        deep: random.one_in(OFTEN),
+        random,
+        counts,
+        maker: Maker::default(),
+        roots: Vec::new(),
+        spare: 0,
+        earlier: Default::default(),
+    };
+    writer.add_names();
+    if counts.of(Section::Names) > 0 {
+        writer.add_symbols();
+    }
+    writer.add_axioms();
+    writer.add_terms();
+    writer.add_unlisted_patterns();
+    writer.place_roots();
+    writer.fill_lists();
+    writer.maker
+}
+
+/// What a range's entries are numbers of.
+#[derive(Clone, Copy)]
+pub(crate) enum Usage {
+    Types,
+    Constants,
+    Functions,
+    Axioms,
+    Terms,
+}
+
+const USAGES: usize = 5;
+/// Letters that many names are made of, so that texts meet by chance.
+const COMMON_LETTERS: &[u8] = b"ab:|";
+/// Letters of a book, if it has so many: names cut from them make literals of
+/// equal text by different splits, and `%tag`.
+const FIRST_LETTERS: &[u8] = b"a:b:c%tag";
+const FIRST_NAMES: [[u32; 2]; 5] = [[0, 3], [4, 1], [0, 1], [2, 3], [5, 4]];
+/// The usual length of a name, list or argument row.
+const NAME_LENGTH: usize = 6;
+pub(crate) const LIST_LENGTH: usize = 3;
+
+pub(crate) struct Writer<'r> {
+    pub(crate) random: &'r mut Random,
+    pub(crate) counts: Counts,
+    pub(crate) maker: Maker,
+    missing_axioms: bool,
+    /// Terms take the newest roots, so that they nest deep.
+    pub(crate) nested: bool,
+    /// Contexts hang below the newest ones.
+    deep: bool,
+    /// Terms that nothing refers to yet.
+    pub(crate) roots: Vec<u32>,
+    /// How many of them the next term may take.
+    pub(crate) spare: usize,
+    /// Earlier ranges of each usage, to overlap with.
+    pub(crate) earlier: [Vec<[u32; 2]>; USAGES],
+}
+
+impl Writer<'_> {
+    fn add_names(&mut self) {
+        let letters = self.counts.of(Section::Letters);
+        self.maker.letters = (0..letters).map(|_| self.letter()).collect();
+        let has_first = letters >= FIRST_LETTERS.len();
+        if has_first {
+            self.maker.letters[..FIRST_LETTERS.len()].copy_from_slice(FIRST_LETTERS);
+        }
+        for _ in 0..self.counts.of(Section::Names) {
+            let name = if has_first && self.random.one_in(AT_TIMES) {
+                self.random.pick(&FIRST_NAMES)
+            } else {
+                let start = self.random.up_to(letters);
+                let usual = NAME_LENGTH.min(letters - start);
+                let most = if self.random.one_in(HARDLY_EVER) {
+                    letters - start
+                } else {
+                    usual
+                };
+                [start as u32, self.random.up_to(most) as u32]
+            };
+            self.maker.names.push(name);
+        }
+    }
+
+    fn letter(&mut self) -> u8 {
+        if self.random.one_in(OFTEN) {
+            self.random.pick(COMMON_LETTERS)
+        } else {
+            FIRST_LETTER + self.random.up_to(usize::from(LAST_LETTER - FIRST_LETTER)) as u8
+        }
+    }
+
+    fn add_symbols(&mut self) {
+        for _ in 0..self.counts.of(Section::Types) {
+            let name = self.number_of(Section::Names);
+            self.maker.types.push([name]);
+        }
+        for _ in 0..self.counts.of(Section::Constants) {
+            let constant = [self.number_of(Section::Names), self.typ()];
+            self.maker.constants.push(constant);
+        }
+        for _ in 0..self.counts.of(Section::Functions) {
+            let (name, typ) = (self.number_of(Section::Names), self.typ());
+            let [inputs, input_count] = self.numbers(Usage::Types);
+            let [axioms, axiom_count] = self.numbers(Usage::Axioms);
+            let function = [name, typ, inputs, input_count, axioms, axiom_count];
+            self.maker.functions.push(function);
+        }
+    }
+
+    /// Axioms, their terms to be placed later. Half of them explain only
+    /// functions that list them, so that many are sent.
+    fn add_axioms(&mut self) {
+        for axiom in 0..self.counts.of(Section::Axioms) as u32 {
+            let listing: Vec<u32> = (0..self.maker.functions.len() as u32)
+                .filter(|function| self.lists_axiom(*function, axiom))
+                .collect();
+            let [start, count] = if listing.is_empty() || self.random.one_in(OFTEN) {
+                self.numbers(Usage::Functions)
+            } else {
+                let explains = [self.random.pick(&listing), self.random.pick(&listing)];
+                self.new_list(&explains)
+            };
+            self.maker.axioms.push([NO_TERM, start, count]);
+        }
+    }
+
+    fn lists_axiom(&self, function: u32, axiom: u32) -> bool {
+        let [.., start, count] = self.maker.functions[function as usize];
+        let range = start as usize..(start + count) as usize;
+        self.maker.lists[range].contains(&axiom)
+    }
+
+    /// Patterns that no quantifier lists may hold any terms.
+    fn add_unlisted_patterns(&mut self) {
+        while self.maker.patterns.len() < self.counts.of(Section::Patterns) {
+            let range = self.numbers(Usage::Terms);
+            self.maker.patterns.push(range);
+        }
+    }
+
+    /// Gives the roots to axioms and contexts; the others are goals only.
+    fn place_roots(&mut self) {
+        let axioms = self.maker.axioms.len();
+        let contexts = self.counts.of(Section::Contexts);
+        // Where there are too few, both get some.
+        let kept = contexts.min(self.roots.len() / 2);
+        let for_axioms = axioms.min(self.roots.len() - kept);
+        for axiom in 0..for_axioms {
+            if !(self.missing_axioms && self.random.one_in(AT_TIMES)) {
+                self.maker.axioms[axiom][0] = self.root();
+            }
+        }
+        let mut depths = vec![0];
+        for node in 1..=contexts.min(self.roots.len()) {
+            let above: Vec<usize> = (0..node).filter(|n| depths[*n] < MOST_DEPTH).collect();
+            let newest = above[above.len() - 1];
+            let hangs_below_newest = self.deep && !self.random.one_in(HARDLY_EVER);
+            let parent = if hangs_below_newest {
+                newest
+            } else {
+                self.random.pick(&above)
+            };
+            depths.push(depths[parent] + 1);
+            let trace = self.random.up_to(self.maker.names.len()) as u32;
+            let trace = if self.random.one_in(OFTEN) { trace } else { 0 };
+            let root = self.root();
+            self.maker.contexts.push([parent as u32, root, trace]);
+        }
+    }
+
+    /// Entries that no range reaches may hold anything.
+    fn fill_lists(&mut self) {
+        while self.has_room(1) {
+            self.maker.lists.push(self.random.number() as u32);
+        }
+    }
+
+    pub(crate) fn number_of(&mut self, section: Section) -> u32 {
+        self.random.below(self.counts.of(section)) as u32
+    }
+
+    pub(crate) fn typ(&mut self) -> u32 {
+        self.random
+            .below(FIRST_USER_TYPE as usize + self.maker.types.len()) as u32
+    }
+
+    /// Takes a term that nothing refers to.
+    pub(crate) fn root(&mut self) -> u32 {
+        let at = self.random.below(self.roots.len());
+        self.roots.swap_remove(at)
+    }
+
+    /// A range for a usage: part of an earlier one, or new entries.
+    pub(crate) fn numbers(&mut self, usage: Usage) -> [u32; 2] {
+        let bound = match usage {
+            Usage::Types => FIRST_USER_TYPE as usize + self.maker.types.len(),
+            Usage::Constants => self.maker.constants.len(),
+            Usage::Functions => self.maker.functions.len(),
+            Usage::Axioms => self.counts.of(Section::Axioms),
+            Usage::Terms => self.maker.terms.len(),
+        };
+        let earlier = &self.earlier[usage as usize];
+        if !earlier.is_empty() && self.random.one_in(AT_TIMES) {
+            let [start, count] = self.random.pick(earlier);
+            let skipped = self.random.up_to(count as usize) as u32;
+            let taken = self.random.up_to((count - skipped) as usize) as u32;
+            return [start + skipped, taken];
+        }
+        let count = if bound == 0 {
+            0
+        } else {
+            self.random.up_to(LIST_LENGTH)
+        };
+        let entries: Vec<u32> = (0..count)
+            .map(|_| self.random.below(bound) as u32)
+            .collect();
+        let range = self.new_list(&entries);
+        self.earlier[usage as usize].push(range);
+        range
+    }
+
+    /// The entries' range, at times behind an entry that no range covers; an
+    /// empty range if there is no room.
+    pub(crate) fn new_list(&mut self, entries: &[u32]) -> [u32; 2] {
+        if entries.is_empty() || !self.has_room(entries.len() + 1) {
+            return self.empty_range();
+        }
+        if self.random.one_in(RARELY) {
+            self.maker.lists.push(self.random.number() as u32);
+        }
+        self.maker.list(entries)
+    }
+
+    pub(crate) fn empty_range(&mut self) -> [u32; 2] {
+        [self.random.up_to(self.maker.lists.len()) as u32, 0]
+    }
+
+    pub(crate) fn has_room(&self, entries: usize) -> bool {
+        self.maker.lists.len() + entries <= self.counts.of(Section::Lists)
+    }
+}

@@ -1,0 +1,126 @@
+//! SolverExpr.dfy: S-expressions, and their printing in both layouts.
+
+use crate::program::{Program, SType};
+use crate::sink::Sink;
+use std::borrow::Cow;
+
+/// How much further the rest of a row is indented than its first part.
+const EXTRA_INDENT: u64 = 2;
+const EMPTY: &[u8] = b"()";
+
+#[derive(Clone, Debug, PartialEq, Eq)]
+pub enum SExpr<'b> {
+    /// A single name.
+    S(Cow<'b, [u8]>),
+    /// Parentheses.
+    PP(Vec<SExpr<'b>>),
+}
+
+/// The indent is a count of spaces.
+#[derive(Clone, Copy, Debug)]
+pub struct SExprPrintConfig {
+    pub newlines: bool,
+    pub indent: u64,
+}
+
+impl SExprPrintConfig {
+    /// What commands are printed with.
+    pub const ONE_LINE: SExprPrintConfig = SExprPrintConfig {
+        newlines: false,
+        indent: 0,
+    };
+
+    /// Saturates: an indent that high is longer than any buffer anyway.
+    fn extra_indent(self) -> SExprPrintConfig {
+        SExprPrintConfig {
+            indent: self.indent.saturating_add(EXTRA_INDENT),
+            ..self
+        }
+    }
+
+    fn space(self, sink: &mut Sink) {
+        if self.newlines {
+            sink.write(b"\n");
+            sink.spaces(self.indent);
+        } else {
+            sink.write(b" ");
+        }
+    }
+}
+
+impl<'b> SExpr<'b> {
+    const FALSE: &'static [u8] = b"false";
+    const TRUE: &'static [u8] = b"true";
+    const NOT: &'static [u8] = b"not";
+
+    /// The Dafny `ToString`.
+    pub fn print(&self, config: SExprPrintConfig, sink: &mut Sink) {
+        match self {
+            SExpr::S(name) if name.is_empty() => sink.write(EMPTY),
+            SExpr::S(name) => sink.write(name),
+            SExpr::PP(parts) => match parts.split_first() {
+                None => sink.write(EMPTY),
+                Some((first, rest)) => {
+                    sink.write(b"(");
+                    first.print(config, sink);
+                    let new_indent = config.extra_indent();
+                    for argument in rest {
+                        new_indent.space(sink);
+                        argument.print(new_indent, sink);
+                    }
+                    sink.write(b")");
+                }
+            },
+        }
+    }
+
+    pub fn name(name: &'b [u8]) -> SExpr<'b> {
+        SExpr::S(Cow::Borrowed(name))
+    }
+
+    pub fn boolean(b: bool) -> SExpr<'b> {
+        SExpr::name(if b { Self::TRUE } else { Self::FALSE })
+    }
+
+    /// The name that a number's decimal digits make (`Int2String`).
+    pub fn integer(x: impl ToString) -> SExpr<'b> {
+        SExpr::S(Cow::Owned(x.to_string().into_bytes()))
+    }
+
+    /// An operator without arguments is its bare name.
+    pub fn func_appl(op: &'b [u8], args: Vec<SExpr<'b>>) -> SExpr<'b> {
+        if args.is_empty() {
+            return SExpr::name(op);
+        }
+        let mut parts = vec![SExpr::name(op)];
+        parts.extend(args);
+        SExpr::PP(parts)
+    }
+
+    pub fn negation(e: SExpr<'b>) -> SExpr<'b> {
+        SExpr::PP(vec![SExpr::name(Self::NOT), e])
+    }
+}
+
+impl SType {
+    pub fn to_sexpr<'b>(self, program: &Program<'b>) -> SExpr<'b> {
+        SExpr::name(match self {
+            SType::SBool => b"Bool",
+            SType::SInt => b"Int",
+            SType::SUserType(decl) => program.types[decl].name,
+        })
+    }
+
+    /// As it stands in a literal's name.
+    pub fn text<'b>(self, program: &Program<'b>) -> &'b [u8] {
+        match self {
+            SType::SBool => b"bool",
+            SType::SInt => b"int",
+            SType::SUserType(decl) => program.types[decl].name,
+        }
+    }
+
+    pub fn types_to_sexpr<'b>(types: &[SType], program: &Program<'b>) -> SExpr<'b> {
+        SExpr::PP(types.iter().map(|typ| typ.to_sexpr(program)).collect())
+    }
+}

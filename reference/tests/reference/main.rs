@@ -1,0 +1,15 @@
+//! The reference's own tests.
+#![deny(warnings)]
+
+mod book_refusals;
+mod call_refusals;
+mod demand_three;
+mod desk;
+mod examples;
+mod field_refusals;
+mod layout;
+mod made_books;
+mod script_program;
+mod session_refusals;
+mod stack_reader;
+mod walk_rules;
