@@ -1,5 +1,5 @@
 -- The assertion stack of SMT-LIB 2.6 (it stands in for SolverEngine.CommandStacks), as far as a session's text uses it: a text, cut into lines, read on a stack of levels.
-use Prim.Native.Nat.{ℕ}
+use Prim.Native.Nat.{ℕ, suc}
 use mathlib.Core.Bool.{Bool, true, false, _||_}
 use mathlib.Core.List.{List, [], _∷_, _++_, map}
 use lib.Dec.{eqb}
@@ -24,6 +24,11 @@ lines cs = map commandToString cs
 pub data Stack : Type 0 where
   first : List Text → Stack
   over : List Text → Stack → Stack
+
+-- how many levels there are
+unfoldable pub height : Stack → ℕ
+height (first l) = 1
+height (over l st) = suc (height st)
 
 -- a reader that was told to pop the first level is lost
 pub data Reader : Type 0 where

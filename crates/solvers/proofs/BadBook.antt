@@ -18,6 +18,7 @@ use Rattle.solvers.specs.declared.Session.{Session}
 use Rattle.solvers.specs.Session.{Written, freshSession}
 use Rattle.solvers.specs.Calls.{moveCall, askCall, replyCall, modelCall, Call, moveTo, askFor, replyWith, modelWith, call}
 use Rattle.solvers.specs.Rule.{standing, levelsOf, levelsFor, present, nodeLevels, mustLive, sessionAt, Trace, after, runFrom, start, run, straight}
+use Rattle.solvers.proofs.Heights.{live-height}
 use Rattle.solvers.specs.StackRule.{Complete, Same, StackRule}
 
 same-trace : {t u : Trace} → t ≡ u → Same t u
@@ -72,6 +73,7 @@ module _ (b : Book) (bad : Refused (bookTest b)) where
   rule-bad cs =
       record {
         reads = rw (ran-refused cs);
+        height = live-height b (run b cs .due);
         moved = (0, λ h k. rw (ran-refused cs, ran-refused (moveTo h 0 ∷ [])));
         fresh = (0, λ h k. same-trace (ran-refused cs ∙ sym (ran-refused (straight h (run b cs .due) ∷ []))));
         texts = λ c w e. absurd (not-accepted (run b cs .now) c w e);

@@ -6,6 +6,7 @@ pub mod Contexts
 pub mod Ladders
 pub mod Questions
 pub mod Steps
+pub mod Heights
 pub mod BadBook
 pub mod Holds
 pub mod Straight

@@ -17,6 +17,7 @@ use Rattle.solvers.specs.Calls.{Call, moveTo}
 use Rattle.smt_engines.specs.Command.{script}
 use Rattle.solvers.specs.HostRun.{HostTrace}
 use Rattle.solvers.specs.Rule.{goalState, shared, Present, present, run, straight}
+use Rattle.solvers.proofs.Heights.{live-height}
 use Rattle.solvers.specs.StackRule.{Complete, StackRule, Seen, NoFallback, Deepest}
 use Rattle.solvers.proofs.Good.{good}
 use Rattle.solvers.proofs.Paths.{path-step}
@@ -46,6 +47,7 @@ module _ (b : Book) (ok : bookTest b ≡ accepted tt) where
       let w = run b cs .due in
       record {
         reads = reads b ok cs;
+        height = live-height b (run b cs .due);
         moved = (roomFor b (moveTo (nobody b ok) (w .node)), moved-there b ok (w .node) (closed-fits w (x .fits)));
         fresh = (roomFor b (straight (nobody b ok) w), straight-same b ok cs);
         texts = λ c y e. unfold textOf in ap script ((subst (Kept b w c) e (kept b ok (run b cs) x c)) .commands);

@@ -78,6 +78,12 @@ module _ (p : Program) where
   unfoldable pub questionCommands : ℕ → RExpr → List Command
   questionCommands n e = (Push ∷ goalCommands n e) ++ (Push ∷ denialCommands n e) ++ (CheckSat ∷ [])
 
+-- the levels that an open question adds
+unfoldable pub questionLevels : Owed → ℕ
+questionLevels Nothing = 0
+questionLevels Reply = 2
+questionLevels Model = 2
+
 -- ---- WHAT THE ACCEPTED CALLS ALONE GIVE: the present node, the open question's goal or 0, and what is owed
 pub record Present : Type 0 where
   pub node : ℕ

@@ -1,7 +1,7 @@
 -- THE STACK RULE (demand 3): what holds of every book, that is, of every list of bytes, and of every list of calls.
 -- Its words are defined in smt_engines/specs/Reader (the assertion stack) and in Rule (what the book alone gives; a list of calls).
 -- Proved in proofs/Theorem.antt: stack-rule, seen, no-fallback, shared-deepest. No statement has a hypothesis but the one it shows.
-use Prim.Native.Nat.{ℕ, suc, _≤_, _<_}
+use Prim.Native.Nat.{ℕ, suc, _+_, _≤_, _<_}
 use mathlib.Core.Path.{_≡_}
 use mathlib.Core.Logic.{_⊎_}
 use mathlib.Core.Bool.{Bool, true, false}
@@ -20,11 +20,11 @@ use Rattle.rsolver.specs.REngine.{walk, declareNewSymbols}
 use Rattle.solvers.specs.declared.Owed.the-variants.{Nothing}
 use Rattle.solvers.specs.Session.{Written, textOf}
 use Rattle.solvers.specs.Calls.{Host, Call, moveTo, call}
-use Rattle.smt_engines.specs.Reader.{live, read}
+use Rattle.smt_engines.specs.Reader.{live, read, height}
 use Rattle.solvers.specs.Image.{writeImage}
 use Rattle.solvers.specs.HostRun.{hostRun}
 use Rattle.solvers.specs.Bodies.{doAll}
-use Rattle.solvers.specs.Rule.{standing, goalState, Present, nodeLevels, mustLive, sessionAt, said, Trace, run, straight}
+use Rattle.solvers.specs.Rule.{standing, goalState, questionLevels, Present, nodeLevels, mustLive, sessionAt, said, Trace, run, straight}
 
 -- no axiom without a term was looked up on the way to the present node, nor, while a question is open, for its goal
 pub record Complete (b : Book) (w : Present) : Type 0 where
@@ -45,6 +45,9 @@ pub record Enough (room : ℕ) (h : Host) : Type 0 where
 pub record StackRule (b : Book) (cs : List Call) : Type 0 where
   -- all session text so far leaves live, at each level, exactly the commands that the book gives for the present node and question
   pub reads : read (run b cs .text) ≡ live (mustLive b (run b cs .due))
+  -- that many levels: the node's depth and one (the bodies' stack.Length() + 1), and two more while a reply or model is owed
+  pub height :
+      height (mustLive b (run b cs .due)) ≡ questionLevels (run b cs .due .owed) + suc (depth (program b) (run b cs .due .node))
   -- the node's own levels are exactly what a fresh session, given scratch and buffer enough and moved straight there, leaves
   pub moved :
       (room : ℕ)

@@ -1,0 +1,15 @@
+# make test is the test command: it installs what it needs, runs every part, and ends with one line 'N passed, M failed'.
+.PHONY: test proofs reference clean
+
+test:
+	@scripts/test.sh
+
+# The quick loop while proving: every crate that changed, no must-fail edits.
+proofs:
+	rt check
+
+reference:
+	cd reference && cargo test --offline --release
+
+clean:
+	rm -rf target reference/target

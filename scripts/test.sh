@@ -1,0 +1,69 @@
+#!/bin/sh
+# Runs every test and counts them all: each part ends in counts of its own, which are added up in the last line.
+set -u
+cd "$(dirname "$0")/.." || exit 1
+
+passed=0
+failed=0
+log=$(mktemp) || exit 1
+trap 'rm -f "$log"' EXIT
+
+count() { # passed failed
+    passed=$((passed + $1))
+    failed=$((failed + $2))
+}
+
+part() { printf '\n== %s\n' "$1"; }
+
+# A command that is missing is installed as a Debian package.
+need() { # command package
+    command -v "$1" >/dev/null 2>&1 && return 0
+    apt-get install -y "$2" >/dev/null 2>&1 || { apt-get update >/dev/null 2>&1 && apt-get install -y "$2" >/dev/null 2>&1; }
+    command -v "$1" >/dev/null 2>&1
+}
+
+# One test: a command that must succeed.
+one() { # name command...
+    name=$1
+    shift
+    if "$@" >"$log" 2>&1; then
+        echo "ok: $name"
+        count 1 0
+    else
+        cat "$log"
+        echo "FAILED: $name"
+        count 0 1
+    fi
+}
+
+part 'layout'
+one 'rt fmt --check' sh -c 'said=$(rt fmt --check 2>&1); echo "$said"; test -z "$said"'
+
+part 'proofs, must-fail edits and programs'
+rt ci >"$log" 2>&1
+status=$?
+grep -v '^logic\|^library\|^note: no function\|(unchanged since' "$log"
+last=$(tail -n 1 "$log")
+case $last in
+    *' passed, '*' failed')
+        count "${last%% passed,*}" "$(echo "$last" | sed 's/.* passed, \([0-9]*\) failed/\1/')" ;;
+    *) count 0 1 ;;
+esac
+[ "$status" -eq 0 ] || [ "$failed" -gt 0 ] || count 0 1
+
+part 'reference program'
+if need cargo cargo; then
+    (cd reference && cargo test --offline --release) >"$log" 2>&1
+    status=$?
+    grep '^test result\|FAILED\|panicked\|^error' "$log"
+    p=$(sed -n 's/^test result: .* \([0-9]*\) passed; .*/\1/p' "$log" | awk '{ n += $1 } END { print n + 0 }')
+    f=$(sed -n 's/^test result: .* passed; \([0-9]*\) failed.*/\1/p' "$log" | awk '{ n += $1 } END { print n + 0 }')
+    count "$p" "$f"
+    if [ "$status" -ne 0 ] && [ "$f" -eq 0 ]; then cat "$log"; count 0 1; fi
+else
+    echo 'FAILED: no cargo, and it could not be installed'
+    count 0 1
+fi
+
+printf '\n%s passed, %s failed\n' "$passed" "$failed"
+[ "$failed" -eq 0 ]
