@@ -4,3 +4,8 @@ pub mod Counting
 pub mod Texts
 pub mod Clean
 pub mod Digits
+pub mod Laws
+mod Writing
+mod Signs
+mod DigitArray
+pub mod Loops

@@ -3,3 +3,4 @@ pub mod Lists
 pub mod Basics
 pub mod Outcome
 pub mod Buffer
+pub mod Write

@@ -1,1 +1,13 @@
-// Basics.dfy: text in a buffer, and decimal numbers. The definitions are in specs/; the code comes with the book test.
+// Basics.dfy: text that is written into a buffer, and decimal numbers.
+mod decimal;
+mod write;
+
+pub use decimal::put_i64;
+pub use decimal::put_int;
+pub use decimal::put_u64;
+pub use write::MOST;
+pub use write::clip;
+pub use write::put;
+pub use write::put_all;
+pub use write::spaces;
+pub use write::sum;
