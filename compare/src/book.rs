@@ -1,0 +1,123 @@
+//! The book test against the reference: the answer, and every scratch byte.
+
+use crate::library;
+use crate::made_books::{chain, each_number_changed, faults, full, good_books, over_the_limits};
+use crate::tally::{Met, Tally};
+use leskofar_reference::book_test::SCRATCH_SIZE;
+use leskofar_reference::damage::damaged;
+use leskofar_reference::random::{Random, OFTEN};
+use leskofar_reference::random_books::{random_book, Counts};
+
+/// What a scratch holds before the call.
+const FILL: u8 = 0xA5;
+/// Random books, valid and damaged.
+const RANDOM_BOOKS: usize = 200_000;
+const SEED: u64 = 0x6C65_736B;
+/// The usual sizes of random books.
+const SIZES: [usize; 6] = [0, 1, 2, 4, 8, 24];
+/// Scratches around the least one that is taken, and a longer one.
+const SCRATCHES: [usize; 5] = [0, 1, SCRATCH_SIZE - 1, SCRATCH_SIZE, SCRATCH_SIZE + 77];
+
+fn compare(book: &[u8], scratch: usize, met: &mut Met) -> Result<(), String> {
+    let mut theirs = vec![FILL; scratch];
+    let mut ours = vec![FILL; scratch];
+    let expected = leskofar_reference::book_test(book, &mut theirs)
+        .err()
+        .unwrap_or(0);
+    let answer = library::book_test(book, &mut ours);
+    met.add(expected);
+    if answer != expected {
+        return Err(format!("answer {answer}, expected {expected}, of {book:?}"));
+    }
+    if ours != theirs {
+        return Err(format!("another scratch after {expected}, of {book:?}"));
+    }
+    Ok(())
+}
+
+fn compare_all(books: &[Vec<u8>], met: &mut Met) -> Result<(), String> {
+    books
+        .iter()
+        .try_for_each(|book| compare(book, SCRATCH_SIZE, met))
+}
+
+pub fn run(tally: &mut Tally) {
+    tally.group("book test, good books, every scratch", || {
+        let mut met = Met::default();
+        for m in good_books() {
+            for scratch in SCRATCHES {
+                compare(&m.book(), scratch, &mut met)?;
+            }
+        }
+        met.all_of(&[0, 1])
+    });
+    tally.group("book test, limits", || {
+        let mut met = Met::default();
+        compare_all(&over_the_limits(), &mut met)?;
+        for depth in [63, 64, 65, 66] {
+            compare(&chain(depth).book(), SCRATCH_SIZE, &mut met)?;
+        }
+        for letter in [0x1F, 0x20, 0x7E, 0x7F] {
+            let mut m = full();
+            m.letters.push(letter);
+            compare(&m.book(), SCRATCH_SIZE, &mut met)?;
+        }
+        met.all_of(&[0, 2, 3, 4, 6])
+    });
+    tally.group("book test, every prefix and some bytes more", || {
+        let mut met = Met::default();
+        let book = full().book();
+        for length in 0..=book.len() {
+            compare(&book[..length], SCRATCH_SIZE, &mut met)?;
+        }
+        let mut longer = book.clone();
+        longer.push(0);
+        compare(&longer, SCRATCH_SIZE, &mut met)?;
+        met.all_of(&[0, 2])
+    });
+    tally.group("book test, every number at every border", || {
+        let mut met = Met::default();
+        let mut first = Ok(());
+        each_number_changed(&full(), &mut |book| {
+            if first.is_ok() {
+                first = compare(book, SCRATCH_SIZE, &mut met);
+            }
+        });
+        first?;
+        met.all_of(&[0, 2, 4, 5])
+    });
+    tally.group("book test, every refusal with every later one", || {
+        let mut met = Met::default();
+        for choice in 0..1 << faults().len() {
+            let mut m = full();
+            for (k, fault) in faults().iter().enumerate() {
+                if choice >> k & 1 == 1 {
+                    fault(&mut m);
+                }
+            }
+            let mut book = m.book();
+            if choice & 1 == 1 {
+                book.push(0);
+            }
+            compare(&book, SCRATCH_SIZE, &mut met)?;
+        }
+        met.all_of(&[0, 2, 3, 4, 5, 6])
+    });
+    tally.group("book test, random books", || {
+        let mut met = Met::default();
+        let mut random = Random::new(SEED);
+        for _ in 0..RANDOM_BOOKS {
+            let size = random.pick(&SIZES);
+            let counts = Counts::random(&mut random, size);
+            let m = random_book(&mut random, counts);
+            let book = if random.one_in(OFTEN) {
+                m.book()
+            } else {
+                damaged(&mut random, &m)
+            };
+            let scratch = SCRATCH_SIZE - 1 + random.below(4);
+            compare(&book, scratch, &mut met)?;
+        }
+        met.all_of(&[0, 1, 2, 3, 4, 5, 6])
+    });
+}

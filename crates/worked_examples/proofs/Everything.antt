@@ -1,0 +1,61 @@
+-- What the worked examples compute with: every definition of every crate.
+-- A table says `unfolding everything` itself, and its fact only names the table. A table that is shut until its fact opens it is computed
+-- again and again: then one session takes more than the fifty million steps of a declaration.
+use Rattle.basics.specs.Text.{same}
+use Rattle.basics.specs.Lists.{allBelow, joinBelow, upTo, all, member}
+use Rattle.basics.specs.Basics.{int2StringNoLeadingZero, nat2String, int2String, int64, comma, seqToString}
+use Rattle.basics.specs.Outcome.{refuse, _>>_, mapOutcome}
+use Rattle.basics.specs.Buffer.{overlay, bufferAfter, scratchAfter}
+use Rattle.book.specs.Refusal.{number}
+use Rattle.book.specs.Book.{offset, size, field, entries, letter, nameText}
+use Rattle.book.specs.Program.{nodeAt, pathUp, path, depth}
+use Rattle.book.specs.Decode.{kindOf, toRExprs, toRPatterns, typeOf, constantOf, functionOf, literalOf, argsOf, patternOf, termBy, termOver, firstTerms, term, literalBy, literalAt, axiomTerm, axiomOf, traceOf, contextOf, program}
+use Rattle.book_contents.specs.Contents.{laidFrom, laidOut, countFits, countsFit}
+use Rattle.book_fields.specs.Fields.{within, typeLimit, entryBelow, isRange, letterInRange, nameInRange, typeInRange, constantInRange, functionInRange, axiomInRange, patternInRange, contextInRange, fieldsInRange}
+use Rattle.book_terms.specs.Terms.{isZero, uses, kindInRange, termInRange, termsInRange}
+use Rattle.book_forest.specs.Forest.{entryReference, rangeReferences, patternReferences, listedReferences, kindReferences, termReferences, axiomReferences, contextReferences, references, allSmaller, noTwice, isForest}
+use Rattle.book_depth.specs.Depth.{steps, nodeDepth, isShallow, shallow}
+use Rattle.book_test.specs.BookTest.{inRange, bookTest, ready, testedValue, bookTestCall}
+use Rattle.solver_expr.specs.SolverExpr.{typeToSExpr, typeList, typesToSExpr, typeToString, flat, extraIndent, space, nameToString, toString, listToString, argsToString, FALSE, TRUE, EQ, NOT, AND, boolean, integer, id, funcAppl, eq, negation, bigAnd}
+use Rattle.solver_expr.specs.Lowering.{operatorName, isTag, literalName, literalToString, boundVarToSExpr, boundVarsToSExpr, annotate, quantifier, toSExpr, toSExprs, patternsToSExprs}
+use Rattle.solver_expr.specs.Operators.{operatorToString, operatorOf}
+use Rattle.solver_expr.specs.Print.{printedValue, printed, fitting as fittingText, printText, printCall, operatorText, operatorCall}
+use Rattle.smt_engines.specs.SmtEngines.{CMD_PUSH, CMD_POP, CMD_CHECK_SAT, CMD_GET_MODEL, contextToString}
+use Rattle.smt_engines.specs.Command.{assumption, declaration, commandToString, script}
+use Rattle.smt_engines.specs.Reader.{glue, cut, lines, kind, join, dropped, hearKind, hear, hearAll, read}
+use Rattle.rsolver.specs.Step.{skip, _⨟_, for, doUnless, unless, doEither, either}
+use Rattle.rsolver.specs.LevelState.{place, literalPlace, joinAt, forget, count, hasName, nameIn, noLevels, fresh, isTop, isDeclaredAt, push, pop, send, declareAt, miss, sentBy}
+use Rattle.rsolver.specs.SolverState.{sameMarker, isIn, with′, newSolver, isTop as isTopItem, pushed, popTo, popped, told, marked, named, missed}
+use Rattle.rsolver.specs.REngine.{withConstants, declareType, declareConstant, declareFunction, declareLiteral, assume, assumeNot, declareNewTypes, declareTypeOf, sendAxiom, includeAxiom, declareOperator, declareSymbols, declareAllSymbols, declarePatternSymbols, walk, declareNewSymbols, enter, adjustContext, popTimes, setContext, askGoal, askModel, closeGoal}
+use Rattle.rsolver.specs.Trace.{traceLine, traceOf as traceOfPath, printTrace, traceText, traceCall}
+use Rattle.solvers.specs.Session.{textOf, freshSession, resume, moved, asked, move, ask, closed, isUnsat, replied, giveReply, giveModel}
+use Rattle.solvers.specs.Calls.{owes, goalFits, isSession, reasonOf, fitting, moveCall, askCall, replyCall, modelCall, hostOf, call}
+use Rattle.solvers.specs.Left.{answerValue, valuesBy, values, reason, sessionAfter, left, called}
+use Rattle.solvers.specs.Image.{bytes4, owedNumber, owedOf, writeImage, noSession, isImage, readImage, imageAfter, calledOnImage}
+use Rattle.solvers.specs.Rule.{shared, standing, settle, nodeCommands, levelsOf, goalState, goalCommands, denialCommands, goalLevels, levelsFor, entering, moveCommands, questionCommands, present, nextReply, next, nodeLevels, mustLive, sessionAt, replyCommands, said, after, runFrom, start, run, straightTo, straight}
+use Rattle.solvers.specs.ByBook.{moveByBook, askByBook, callByBook}
+use Rattle.solvers.specs.Bodies.{onReply, doCall, doIfAccepted, doFrom, doAll}
+
+-- the book, and its test
+unfoldable pub testing : Unit {0}
+unfolding same allBelow joinBelow upTo all member refuse _>>_ mapOutcome overlay bufferAfter scratchAfter number offset size field entries letter nameText laidFrom laidOut countFits countsFit within typeLimit entryBelow isRange letterInRange nameInRange typeInRange constantInRange functionInRange axiomInRange patternInRange contextInRange fieldsInRange isZero uses kindInRange termInRange termsInRange entryReference rangeReferences patternReferences listedReferences kindReferences termReferences axiomReferences contextReferences references allSmaller noTwice isForest steps nodeDepth isShallow shallow inRange bookTest ready testedValue bookTestCall kindOf
+testing = tt
+
+-- what a book holds, and how it is printed
+unfoldable pub printing : Unit {0}
+unfolding int2StringNoLeadingZero nat2String int2String int64 comma seqToString nodeAt pathUp path depth toRExprs toRPatterns typeOf constantOf functionOf literalOf argsOf patternOf termBy termOver firstTerms term literalBy literalAt axiomTerm axiomOf traceOf contextOf program typeToSExpr typeList typesToSExpr typeToString flat extraIndent space nameToString toString listToString argsToString FALSE TRUE EQ NOT AND boolean integer id funcAppl eq negation bigAnd operatorName isTag literalName literalToString boundVarToSExpr boundVarsToSExpr annotate quantifier toSExpr toSExprs patternsToSExprs operatorToString operatorOf printedValue printed fittingText printText printCall operatorText operatorCall
+printing = tt
+
+-- the solver's state and engine, and what they send
+unfoldable pub sending : Unit {0}
+unfolding CMD_PUSH CMD_POP CMD_CHECK_SAT CMD_GET_MODEL contextToString assumption declaration commandToString script skip _⨟_ for doUnless unless doEither either place literalPlace joinAt forget count hasName nameIn noLevels fresh isTop isDeclaredAt push pop send declareAt miss sentBy sameMarker isIn with′ newSolver isTopItem pushed popTo popped told marked named missed withConstants declareType declareConstant declareFunction declareLiteral assume assumeNot declareNewTypes declareTypeOf sendAxiom includeAxiom declareOperator declareSymbols declareAllSymbols declarePatternSymbols walk declareNewSymbols enter adjustContext popTimes setContext askGoal askModel closeGoal traceLine traceOfPath printTrace traceText traceCall
+sending = tt
+
+-- the session's calls, lists of them, and the reader of their text
+unfoldable pub calling : Unit {0}
+unfolding textOf freshSession resume moved asked move ask closed isUnsat replied giveReply giveModel owes goalFits isSession reasonOf fitting moveCall askCall replyCall modelCall hostOf call answerValue valuesBy values reason sessionAfter left called bytes4 owedNumber owedOf writeImage noSession isImage readImage imageAfter calledOnImage shared standing settle nodeCommands levelsOf goalState goalCommands denialCommands goalLevels levelsFor entering moveCommands questionCommands present nextReply next nodeLevels mustLive sessionAt replyCommands said after runFrom start run straightTo straight moveByBook askByBook callByBook onReply doCall doIfAccepted doFrom doAll glue cut lines kind join dropped hearKind hear hearAll read
+calling = tt
+
+unfoldable pub everything : Unit {0}
+unfolding testing printing sending calling
+everything = tt

@@ -1,0 +1,10 @@
+pub mod Everything
+pub mod Books
+pub mod Hosts
+pub mod Examples
+pub mod Corners
+pub mod Operators
+pub mod Refusals
+pub mod Depths
+pub mod Lists
+pub mod Sessions
