@@ -1,8 +1,13 @@
 # make test is the test command: it installs what it needs, runs every part, and ends with one line 'N passed, M failed'.
-.PHONY: test proofs reference clean
+.PHONY: test bench proofs reference clean
 
 test:
 	@scripts/test.sh
+
+# Speed, as ratios to the reference in one run.
+bench:
+	rt staticlib leskofar
+	cargo run --quiet --offline --release --manifest-path compare/Cargo.toml -- bench
 
 # The quick loop while proving: every crate that changed, no must-fail edits.
 proofs:
@@ -12,4 +17,4 @@ reference:
 	cd reference && cargo test --offline --release
 
 clean:
-	rm -rf target reference/target
+	rm -rf target reference/target compare/target

@@ -36,20 +36,37 @@ one() { # name command...
     fi
 }
 
+# A part that ends in a line of counts of its own.
+counted() { # name command...
+    name=$1
+    shift
+    "$@" >"$log" 2>&1
+    status=$?
+    cat "$log"
+    last=$(tail -n 1 "$log")
+    case $last in
+        *' passed, '*' failed')
+            f=$(echo "$last" | sed 's/.* passed, \([0-9]*\) failed/\1/')
+            count "${last%% passed,*}" "$f"
+            [ "$status" -eq 0 ] || [ "$f" -gt 0 ] || count 0 1 ;;
+        *)
+            echo "FAILED: $name"
+            count 0 1 ;;
+    esac
+}
+
 part 'layout'
 one 'rt fmt --check' sh -c 'said=$(rt fmt --check 2>&1); echo "$said"; test -z "$said"'
 
 part 'proofs, must-fail edits and programs'
-rt ci >"$log" 2>&1
-status=$?
-grep -v '^logic\|^library\|^note: no function\|(unchanged since' "$log"
-last=$(tail -n 1 "$log")
-case $last in
-    *' passed, '*' failed')
-        count "${last%% passed,*}" "$(echo "$last" | sed 's/.* passed, \([0-9]*\) failed/\1/')" ;;
-    *) count 0 1 ;;
-esac
-[ "$status" -eq 0 ] || [ "$failed" -gt 0 ] || count 0 1
+ci() { # rt ci without the lines that say nothing new, with its status
+    rt ci >"$log.ci" 2>&1
+    status=$?
+    grep -v '^logic\|^library\|^note: no function\|^fn .*: proved\|(unchanged since' "$log.ci"
+    rm -f "$log.ci"
+    return "$status"
+}
+counted 'rt ci' ci
 
 part 'reference program'
 if need cargo cargo; then
@@ -62,6 +79,23 @@ if need cargo cargo; then
     if [ "$status" -ne 0 ] && [ "$f" -eq 0 ]; then cat "$log"; count 0 1; fi
 else
     echo 'FAILED: no cargo, and it could not be installed'
+    count 0 1
+fi
+
+part 'the library, against the reference and from C'
+if rt staticlib leskofar >"$log" 2>&1 && need cargo cargo && need cc gcc; then
+    counted 'comparison' cargo run --quiet --offline --release --manifest-path compare/Cargo.toml
+    capi=target/capi
+    if cc -std=c11 -Wall -Wextra -Werror -pedantic -Iinclude tests/capi.c target/staticlib/libleskofar.a -o "$capi" >"$log" 2>&1; then
+        counted 'C interface' "$capi"
+    else
+        cat "$log"
+        echo 'FAILED: the C test does not compile'
+        count 0 1
+    fi
+else
+    cat "$log"
+    echo 'FAILED: no static library, or no compiler'
     count 0 1
 fi
 

@@ -5,7 +5,7 @@ use crate::made_books::{chain, each_number_changed, faults, full, good_books, ov
 use crate::tally::{Met, Tally};
 use leskofar_reference::book_test::SCRATCH_SIZE;
 use leskofar_reference::damage::damaged;
-use leskofar_reference::random::{Random, OFTEN};
+use leskofar_reference::random::{Random, HARDLY_EVER, OFTEN};
 use leskofar_reference::random_books::{random_book, Counts};
 
 /// What a scratch holds before the call.
@@ -15,6 +15,8 @@ const RANDOM_BOOKS: usize = 200_000;
 const SEED: u64 = 0x6C65_736B;
 /// The usual sizes of random books.
 const SIZES: [usize; 6] = [0, 1, 2, 4, 8, 24];
+/// How much longer than the least a scratch is, at most.
+const LONGER: usize = 4;
 /// Scratches around the least one that is taken, and a longer one.
 const SCRATCHES: [usize; 5] = [0, 1, SCRATCH_SIZE - 1, SCRATCH_SIZE, SCRATCH_SIZE + 77];
 
@@ -96,9 +98,9 @@ pub fn run(tally: &mut Tally) {
                 }
             }
             let mut book = m.book();
-            if choice & 1 == 1 {
-                book.push(0);
-            }
+            compare(&book, SCRATCH_SIZE, &mut met)?;
+            // A byte too many is 2.
+            book.push(0);
             compare(&book, SCRATCH_SIZE, &mut met)?;
         }
         met.all_of(&[0, 2, 3, 4, 5, 6])
@@ -115,7 +117,11 @@ pub fn run(tally: &mut Tally) {
             } else {
                 damaged(&mut random, &m)
             };
-            let scratch = SCRATCH_SIZE - 1 + random.below(4);
+            let scratch = if random.one_in(HARDLY_EVER) {
+                SCRATCH_SIZE - 1
+            } else {
+                SCRATCH_SIZE + random.below(LONGER)
+            };
             compare(&book, scratch, &mut met)?;
         }
         met.all_of(&[0, 1, 2, 3, 4, 5, 6])

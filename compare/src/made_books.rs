@@ -131,11 +131,10 @@ fn number(book: &[u8], place: usize) -> u32 {
     u32::from_le_bytes(bytes.try_into().expect("four bytes"))
 }
 
-/// A fault for each refusal from 2 to 6, to be put together so that the order
-/// shows.
-pub fn faults() -> [fn(&mut Maker); 5] {
+/// A fault in the records for each refusal from 3 to 6, to be put together so
+/// that the order shows.
+pub fn faults() -> [fn(&mut Maker); 4] {
     [
-        |_| (),
         |m| m.names.resize(Section::Names.most() + 1, [0, 0]),
         |m| m.letters.push(0x1F),
         |m| {

@@ -1,5 +1,6 @@
 pub mod Refusal
 pub mod Book
+pub mod Laid
 pub mod SType
 pub mod RExpr
 pub mod Program

@@ -4,7 +4,8 @@ use mathlib.Core.Option.{Option, none}
 use mathlib.Core.List.{List, [], _∷_}
 use mathlib.Core.Bool.{true}
 use lib.ListN.{length, getD}
-use Rattle.basics.specs.Text.{Text}
+use Rattle.basics.specs.Text.{Text, if_then_else_}
+use Rattle.basics.specs.Lists.{member}
 use Rattle.book.specs.RExpr.{RExpr, Boolean, Literal}
 
 -- Ast.Axiom with its entry in axiomMap, or none
@@ -43,3 +44,8 @@ path p node = pathUp p node node
 -- RContext_.depth
 unfoldable pub depth : Program → ℕ → ℕ
 depth p node = length (path p node)
+
+-- the depth of the deepest node of one path that another has too; 0 for the root
+unfoldable pub shared : List ℕ → List ℕ → ℕ
+shared [] q = 0
+shared (m ∷ ns) q = if member m q then suc (length ns) else shared ns q

@@ -1,1 +1,3 @@
 pub mod Forest
+pub mod Followed
+pub mod Marks

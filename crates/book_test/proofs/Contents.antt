@@ -9,10 +9,10 @@ use lib.ListN.{length}
 use borrow.Author.Tests.{eqb-true, leb-true}
 use Rattle.basics.specs.Lists.{all}
 use Rattle.basics.proofs.Bool.{and-both}
-use Rattle.basics.proofs.All.{All, end, more}
-use Rattle.book.specs.Book.{Book, Section, sections, contentsSize, offset, size}
+use Rattle.basics.proofs.All.{All, end, more, all-at}
+use Rattle.book.specs.Book.{Book, Section, letters, sections, contentsSize, offset, size}
+use Rattle.book.specs.Laid.{Laid, AllLaid}
 use Rattle.book_contents.specs.Contents.{laidFrom, laidOut, countFits, countsFit}
-use Rattle.book_test.specs.Promise.{Laid}
 
 -- the section's entry stands in the contents
 listed : Section → Bool
@@ -39,8 +39,28 @@ module _ (b : Book) where
         few = leb-true (size b s) (s .most) (f .0);
       }) (from-laid (at + s .size * size b s) ss c (n .1) (r .1) (f .1))
 
-  pub sections-laid : laidOut b ≡ true → countsFit b ≡ true → All (Laid b) sections
+  sections-laid : laidOut b ≡ true → countsFit b ≡ true → All (Laid b) sections
   unfolding laidOut countsFit all listed
   sections-laid h k =
       let r = and-both (leb contentsSize (length b)) (laidFrom b contentsSize sections) h in
       from-laid contentsSize sections (leb-true contentsSize (length b) (r .0)) refl (r .1) k
+
+  pub contents-stand : laidOut b ≡ true → contentsSize ≤ length b
+  unfolding laidOut
+  contents-stand h = leb-true contentsSize (length b) (and-both (leb contentsSize (length b)) (laidFrom b contentsSize sections) h .0)
+
+  pub all-laid : laidOut b ≡ true → countsFit b ≡ true → AllLaid b
+  all-laid h k =
+      let laid = sections-laid h k in
+      record {
+        letters-laid = all-at laid 0 letters (omega arith);
+        names-laid = all-at laid 1 letters (omega arith);
+        types-laid = all-at laid 2 letters (omega arith);
+        constants-laid = all-at laid 3 letters (omega arith);
+        functions-laid = all-at laid 4 letters (omega arith);
+        axioms-laid = all-at laid 5 letters (omega arith);
+        patterns-laid = all-at laid 6 letters (omega arith);
+        terms-laid = all-at laid 7 letters (omega arith);
+        contexts-laid = all-at laid 8 letters (omega arith);
+        lists-laid = all-at laid 9 letters (omega arith);
+      }

@@ -4,6 +4,8 @@ pub mod Ranges
 pub mod Forest
 pub mod Depth
 pub mod Promise
+pub mod Given
+pub mod Answers
 pub mod Entries
 pub mod TermLaw
 pub mod EveryTerm

@@ -18,7 +18,7 @@ use Rattle.book_forest.specs.Forest.{rangeReferences, patternReferences, listed
 use Rattle.book_test.specs.BookTest.{bookTest}
 use Rattle.book_test.specs.Promise.{Range, GoodPattern, GoodPatterns, GoodKind, GoodTerm, GoodContext, Promise}
 use Rattle.book_test.proofs.Outcomes.{test-passed}
-use Rattle.book_test.proofs.Contents.{sections-laid}
+use Rattle.book_test.proofs.Contents.{all-laid}
 use Rattle.book_test.proofs.Ranges.{tests, in-section, range, letter-range, name-good, type-good, constant-good, function-good, axiom-good, pattern-good, context-good}
 use Rattle.book_test.proofs.Forest.{Smaller, children-smaller, entry-smaller, listed-smaller}
 use Rattle.book_test.proofs.Depth.{depth-most}
@@ -84,21 +84,21 @@ module _ (b : Book) (pattern : (p : ℕ) → p < size b patterns → GoodPattern
 pub promise : (b : Book) → bookTest b ≡ accepted tt → Promise b
 promise b accepts =
     let T = test-passed b accepts in
-    let laid = sections-laid b (T .laid) (T .counts) in
+    let L = all-laid b (T .laid) (T .counts) in
     let R = tests b (T .ranges) in
     let patterns-are : (p : ℕ) → p < size b patterns → GoodPattern b (size b terms) p = λ p l. pattern-good b p l (R .pattern p l) in
     let contexts-are : (k : ℕ) → k < size b contexts → GoodContext b k = λ k l. context-good b k (R .context k l) in
     record {
-      letters-laid = all-at laid 0 letters (omega arith);
-      names-laid = all-at laid 1 letters (omega arith);
-      types-laid = all-at laid 2 letters (omega arith);
-      constants-laid = all-at laid 3 letters (omega arith);
-      functions-laid = all-at laid 4 letters (omega arith);
-      axioms-laid = all-at laid 5 letters (omega arith);
-      patterns-laid = all-at laid 6 letters (omega arith);
-      terms-laid = all-at laid 7 letters (omega arith);
-      contexts-laid = all-at laid 8 letters (omega arith);
-      lists-laid = all-at laid 9 letters (omega arith);
+      letters-laid = L .letters-laid;
+      names-laid = L .names-laid;
+      types-laid = L .types-laid;
+      constants-laid = L .constants-laid;
+      functions-laid = L .functions-laid;
+      axioms-laid = L .axioms-laid;
+      patterns-laid = L .patterns-laid;
+      terms-laid = L .terms-laid;
+      contexts-laid = L .contexts-laid;
+      lists-laid = L .lists-laid;
       letter-low = λ i l. letter-range b i (R .letter i l) .0;
       letter-high = λ i l. letter-range b i (R .letter i l) .1;
       name = λ n l. name-good b n (R .name n l);

@@ -1,17 +1,12 @@
 -- The promise: what a book that the test accepts has. Every crate above relies on this, and on nothing else of the test.
-use Prim.Native.Nat.{ℕ, suc, _+_, _*_, _<_, _≤_}
+use Prim.Native.Nat.{ℕ, suc, _+_, _<_, _≤_}
 use mathlib.Core.Path.{_≡_}
 use mathlib.Core.List.{List}
 use lib.ListN.{length}
-use Rattle.book.specs.Book.{Book, Section, letters, names, types, constants, functions, axioms, patterns, terms, contexts, lists, offset, size, field, letter, userTypes, noTerm, depthMost}
+use Rattle.book.specs.Book.{Book, letters, names, types, constants, functions, axioms, patterns, terms, contexts, lists, size, field, letter, userTypes, noTerm, depthMost}
+use Rattle.book.specs.Laid.{Laid}
 use Rattle.book.specs.Program.{depth}
 use Rattle.book.specs.Decode.{Kind, boolean, integer, customLiteral, id, builtIn, application, ifThenElse, letExpr, quantifierExpr, kinds, kindOf, program}
-
--- the records of section s stand in the book, and their count is within its limit
-pub record Laid (b : Book) (s : Section) : Type 0 where
-  pub contents : 8 * s .number + 8 ≤ length b
-  pub whole : offset b s + s .size * size b s ≤ length b
-  pub few : size b s ≤ s .most
 
 -- a range of lists whose entries are below a limit
 pub record Range (b : Book) (limit start count : ℕ) : Type 0 where

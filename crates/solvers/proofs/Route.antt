@@ -9,9 +9,8 @@ use lib.ListN.{length, replicate, take}
 use borrow.Author.Tests.{ltb-true, ltb-false, eqb-true, eqb-false, ne-eqb, eq-eqb, lt-ltb}
 use Rattle.basics.specs.Text.{if_then_else_}
 use Rattle.basics.specs.Lists.{member}
-use Rattle.book.specs.Program.{Program, path}
+use Rattle.book.specs.Program.{Program, path, shared}
 use Rattle.rsolver.specs.LevelState.{isTop}
-use Rattle.solvers.specs.Rule.{shared}
 use Rattle.solvers.proofs.Paths.{Chain, Op, up, down, adjust, ops}
 
 unfoldable pub route : List ℕ → List ℕ → ℕ → List Op

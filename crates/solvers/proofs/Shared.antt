@@ -10,8 +10,7 @@ use lib.ListN.{length}
 use borrow.Author.Tests.{eqb-true, eq-eqb}
 use Rattle.basics.specs.Text.{if_then_else_}
 use Rattle.basics.specs.Lists.{member}
-use Rattle.book.specs.Program.{Program, path, depth}
-use Rattle.solvers.specs.Rule.{shared}
+use Rattle.book.specs.Program.{Program, path, depth, shared}
 use Rattle.solvers.specs.StackRule.{Deepest}
 use Rattle.solvers.proofs.Good.{Good}
 use Rattle.solvers.proofs.Paths.{Chain, chain}

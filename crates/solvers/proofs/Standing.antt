@@ -6,7 +6,7 @@ use mathlib.Core.List.{List, [], _∷_, _++_, map, tail, reverse, append-assoc, 
 use mathlib.Core.Bool.{Bool, true, false}
 use lib.ListN.{length, replicate, take, drop}
 use Rattle.basics.proofs.All.{All, end, more, all-append}
-use Rattle.book.specs.Program.{Program, nodeAt, path, depth}
+use Rattle.book.specs.Program.{Program, nodeAt, path, depth, shared}
 use Rattle.smt_engines.specs.Command.{Command, Push, Pop}
 use Rattle.smt_engines.specs.Reader.{live, hearAll, lines}
 use Rattle.smt_engines.proofs.Commands.{Plain}
@@ -16,7 +16,7 @@ use Rattle.rsolver.specs.LevelState.{LevelState, levelCount, noLevels, levelled
 use Rattle.rsolver.specs.REngine.{assume, declareNewSymbols, enter}
 use Rattle.rsolver.proofs.Levels.{Grown, Within, within-zeros, grown-within, forget-grown}
 use Rattle.rsolver.proofs.Declares.{put, Declares, sent-by, missing-is, missing-down, then-d, assume-d, symbols-d}
-use Rattle.solvers.specs.Rule.{standing, settle, nodeCommands, levelsOf, shared, entering, moveCommands}
+use Rattle.solvers.specs.Rule.{standing, settle, nodeCommands, levelsOf, entering, moveCommands}
 use Rattle.solvers.proofs.Good.{Good}
 use Rattle.solvers.proofs.Paths.{Chain, chain, Op, up, down, ops, applied, applied-append, Legal, Leads, leads-set}
 use Rattle.solvers.proofs.Route.{route, ops-route, shared-le}

@@ -5,7 +5,7 @@ use mathlib.Core.List.{List}
 use mathlib.Core.Bool.{Bool, false}
 use Rattle.basics.specs.Outcome.{Outcome, accepted, refused}
 use Rattle.book.specs.Book.{Book}
-use Rattle.book.specs.Program.{path}
+use Rattle.book.specs.Program.{path, shared}
 use Rattle.book.specs.Decode.{term, program}
 use Rattle.book_test.specs.BookTest.{bookTest}
 use Rattle.book_test.proofs.Promise.{promise}
@@ -16,7 +16,7 @@ use Rattle.solvers.specs.Session.{textOf}
 use Rattle.solvers.specs.Calls.{Call, moveTo}
 use Rattle.smt_engines.specs.Command.{script}
 use Rattle.solvers.specs.HostRun.{HostTrace}
-use Rattle.solvers.specs.Rule.{goalState, shared, Present, present, run, straight}
+use Rattle.solvers.specs.Rule.{goalState, Present, present, run, straight}
 use Rattle.solvers.proofs.Heights.{live-height}
 use Rattle.solvers.specs.StackRule.{Complete, StackRule, Seen, NoFallback, Deepest}
 use Rattle.solvers.proofs.Good.{good}

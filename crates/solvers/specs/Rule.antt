@@ -4,12 +4,11 @@ use Prim.Native.Nat.{ℕ, zero, suc, _-_}
 use mathlib.Core.Bool.{Bool, true, false}
 use mathlib.Core.List.{List, [], _∷_, _++_, reverse}
 use lib.ListN.{length, replicate, take}
-use Rattle.basics.specs.Text.{Text, if_then_else_}
-use Rattle.basics.specs.Lists.{member}
+use Rattle.basics.specs.Text.{Text}
 use Rattle.basics.specs.Outcome.{Outcome, refused, accepted}
 use Rattle.book.specs.RExpr.{RExpr}
 use Rattle.book.specs.Book.{Book}
-use Rattle.book.specs.Program.{Program, nodeAt, path, depth}
+use Rattle.book.specs.Program.{Program, nodeAt, path, depth, shared}
 use Rattle.book.specs.Decode.{term, program}
 use Rattle.smt_engines.specs.Command.{Command, Push, Pop, CheckSat, GetModel}
 use Rattle.rsolver.specs.Step.{Step, _⨟_}
@@ -23,11 +22,6 @@ use Rattle.solvers.specs.Calls.{Host, Call, moveTo, askFor, replyWith, m
 use Rattle.smt_engines.specs.Reader.{Stack, first, over, lines}
 
 -- ---- WHAT THE BOOK ALONE GIVES
--- the depth of the deepest node of one path that another has too; 0 for the root
-unfoldable pub shared : List ℕ → List ℕ → ℕ
-shared [] q = 0
-shared (m ∷ ns) q = if member m q then suc (length ns) else shared ns q
-
 module _ (p : Program) where
   -- a fresh session's state, moved down a path
   unfoldable pub standing : List ℕ → LevelState

@@ -1,0 +1,19 @@
+use borrow.Author.Needs.{needs}
+use Rattle.book_fields.specs.Fields.{letterInRange, within}
+use Rattle.book_fields.proofs.letter_in_range.Statement.{statement}
+use Rattle.book_fields.proofs.letter_in_range.Tie as tie
+use Rattle.book_fields.proofs.letter_in_range.Reads as reads
+use Rattle.book_fields.proofs.letter_in_range.Lts as lts
+use Rattle.book.proofs.letter.Reads as letter-reads
+
+-- src/lib.rt:98:9
+letter-requires : tie.Need-letter-requires
+letter-requires c κs = search needs
+
+-- src/lib.rt:94:1
+returns : tie.Need-returns
+unfolding letterInRange within
+returns c = cc
+
+pub letter-in-range-spec : {M : Type 1} → statement M
+letter-in-range-spec = tie.close (tie.spec letter-requires returns)

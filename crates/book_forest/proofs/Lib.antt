@@ -1,0 +1,4 @@
+pub mod Stored
+pub mod Marking
+pub mod Children
+pub mod Right

@@ -1,0 +1,36 @@
+-- How the test goes: each term that is referred to gets a mark in the scratch.
+use Prim.Native.Nat.{ℕ}
+use mathlib.Core.Path.{_≡_}
+use mathlib.Core.List.{List, [], _∷_}
+use mathlib.Core.Bool.{Bool, true, not, _&&_}
+use lib.Dec.{eqb, ltb}
+use lib.ListN.{length, getD, set}
+use Rattle.book_forest.specs.Forest.{Reference}
+
+-- A mark is a byte that is not 0. Only set_mark, is_marked and clear, and the laws of proofs/Stored.antt, open these three.
+unfoldable pub isMarked : List ℕ → ℕ → Bool
+isMarked m t = not (eqb (getD m t 0) 0)
+
+unfoldable pub setMark : List ℕ → ℕ → List ℕ
+setMark m t = set m t 1
+
+-- the terms below this have a mark of their own
+unfoldable pub room : List ℕ → ℕ
+room m = length m
+
+-- the references can be marked one after the other: each is to a term below its bound and with no mark yet
+unfoldable pub canMark : List ℕ → List Reference → Bool
+canMark m [] = true
+canMark m (r ∷ rs) = ltb (r .term) (r .bound) && not (isMarked m (r .term)) && canMark (setMark m (r .term)) rs
+
+-- the marks after that
+unfoldable pub allMarked : List ℕ → List Reference → List ℕ
+allMarked m [] = m
+allMarked m (r ∷ rs) = allMarked (setMark m (r .term)) rs
+
+-- ok says whether the references could be marked from m on, and if so m′ has the marks then
+pub record Marked (m : List ℕ) (rs : List Reference) (ok : Bool) (m′ : List ℕ) : Type 0 where
+  pub is : ok ≡ canMark m rs
+  pub left : ok ≡ true → m′ ≡ allMarked m rs
+  pub long : length m′ ≡ length m
+  pub roomy : room m′ ≡ room m

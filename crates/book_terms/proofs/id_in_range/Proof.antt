@@ -1,0 +1,30 @@
+use borrow.Author.Needs.{needs}
+use Rattle.book_terms.specs.Terms.{kindInRange}
+use Rattle.book_fields.specs.Fields.{within}
+use Rattle.book_terms.proofs.id_in_range.Statement.{statement}
+use Rattle.book_terms.proofs.id_in_range.Tie as tie
+use Rattle.book_terms.proofs.id_in_range.Reads as reads
+use Rattle.book_terms.proofs.id_in_range.Lts as lts
+use Rattle.book.proofs.count.Reads as count-reads
+use Rattle.book.proofs.field.Reads as field-reads
+use Rattle.book_terms.proofs.uses.Reads as uses-reads
+
+-- src/lib.rt:107:6
+field-requires : tie.Need-field-requires
+field-requires c κs = search needs
+
+-- src/lib.rt:107:43
+count-requires : tie.Need-count-requires
+count-requires c κs = search needs
+
+-- src/lib.rt:107:69
+uses-requires : tie.Need-uses-requires
+uses-requires c κs = search needs
+
+-- src/lib.rt:103:1
+returns : tie.Need-returns
+unfolding kindInRange within
+returns c = cc
+
+pub id-in-range-spec : {M : Type 1} → statement M
+id-in-range-spec = tie.close (tie.spec field-requires count-requires uses-requires returns)

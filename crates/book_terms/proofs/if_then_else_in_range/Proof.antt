@@ -1,0 +1,46 @@
+use borrow.Author.Needs.{needs}
+use Rattle.book_terms.specs.Terms.{kindInRange}
+use Rattle.book_fields.specs.Fields.{within}
+use Rattle.book_terms.proofs.if_then_else_in_range.Statement.{statement}
+use Rattle.book_terms.proofs.if_then_else_in_range.Tie as tie
+use Rattle.book_terms.proofs.if_then_else_in_range.Reads as reads
+use Rattle.book_terms.proofs.if_then_else_in_range.Lts as lts
+use Rattle.book.proofs.count.Reads as count-reads
+use Rattle.book.proofs.field.Reads as field-reads
+use Rattle.book_terms.proofs.uses.Reads as uses-reads
+
+-- src/lib.rt:132:9
+count-requires : tie.Need-count-requires
+count-requires c κs = search needs
+
+-- src/lib.rt:133:6
+field-requires : tie.Need-field-requires
+field-requires c κs = search needs
+
+-- src/lib.rt:134:12
+field-requires-2 : tie.Need-field-requires-2
+field-requires-2 c κs = search needs
+
+-- src/lib.rt:135:12
+field-requires-3 : tie.Need-field-requires-3
+field-requires-3 c κs = search needs
+
+-- src/lib.rt:136:11
+uses-requires : tie.Need-uses-requires
+uses-requires c κs = search needs
+
+-- src/lib.rt:128:1
+returns : tie.Need-returns
+unfolding kindInRange within
+returns c = cc
+
+pub if-then-else-in-range-spec : {M : Type 1} → statement M
+if-then-else-in-range-spec =
+    tie.close
+    (tie.spec
+    count-requires
+    field-requires
+    field-requires-2
+    field-requires-3
+    uses-requires
+    returns)

@@ -1,0 +1,47 @@
+use borrow.Author.Needs.{needs}
+use Rattle.book_terms.specs.Terms.{kindInRange}
+use Rattle.book_fields.specs.Fields.{within}
+use Rattle.book_terms.proofs.literal_in_range.Statement.{statement}
+use Rattle.book_terms.proofs.literal_in_range.Tie as tie
+use Rattle.book_terms.proofs.literal_in_range.Reads as reads
+use Rattle.book_terms.proofs.literal_in_range.Lts as lts
+use Rattle.book.proofs.count.Reads as count-reads
+use Rattle.book.proofs.field.Reads as field-reads
+use Rattle.book_fields.proofs.is_type.Reads as is-type-reads
+use Rattle.book_terms.proofs.uses.Reads as uses-reads
+
+-- src/lib.rt:98:6
+field-requires : tie.Need-field-requires
+field-requires c κs = search needs
+
+-- src/lib.rt:98:44
+count-requires : tie.Need-count-requires
+count-requires c κs = search needs
+
+-- src/lib.rt:99:25
+field-requires-2 : tie.Need-field-requires-2
+field-requires-2 c κs = search needs
+
+-- src/lib.rt:99:11
+is-type-requires : tie.Need-is-type-requires
+is-type-requires c κs = search needs
+
+-- src/lib.rt:100:11
+uses-requires : tie.Need-uses-requires
+uses-requires c κs = search needs
+
+-- src/lib.rt:94:1
+returns : tie.Need-returns
+unfolding kindInRange within
+returns c = cc
+
+pub literal-in-range-spec : {M : Type 1} → statement M
+literal-in-range-spec =
+    tie.close
+    (tie.spec
+    field-requires
+    count-requires
+    field-requires-2
+    is-type-requires
+    uses-requires
+    returns)
