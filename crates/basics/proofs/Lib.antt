@@ -5,6 +5,7 @@ pub mod Texts
 pub mod Clean
 pub mod Digits
 pub mod Laws
+pub mod Places
 mod Writing
 mod Signs
 mod DigitArray

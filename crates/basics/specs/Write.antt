@@ -1,7 +1,7 @@
--- Text that is written into the free part of a buffer, as far as it goes.
+-- Text that is written into the free part of a buffer, as far as it goes; or, of the whole buffer, from a place on.
 use mathlib.Core.Path.{_≡_}
-use mathlib.Core.List.{List}
-use Prim.Native.Nat.{ℕ, _-_, _^_, min}
+use mathlib.Core.List.{List, [], _∷_}
+use Prim.Native.Nat.{ℕ, zero, suc, _+_, _-_, _^_, min}
 use lib.ListN.{length, replicate}
 use Rattle.basics.specs.Text.{Text}
 use Rattle.basics.specs.Buffer.{overlay}
@@ -21,3 +21,14 @@ spaceByte = 0x20
 -- the same of n spaces, where n may have stayed at MOST: for every count of them that n stands for
 pub record WroteSpaces (n : ℕ) (o o' : List ℕ) (r : ℕ) : Type 0 where
   pub spaces : (count : ℕ) → n ≡ min count MOST → Wrote (replicate count spaceByte) o o' r
+
+-- the text written over a buffer from a place on, as far as the buffer goes
+unfoldable pub overlayAt : ℕ → Text → List ℕ → List ℕ
+overlayAt zero t o = overlay t o
+overlayAt (suc n) t [] = []
+overlayAt (suc n) t (y ∷ o) = y ∷ overlayAt n t o
+
+-- a writer of the text t at a place leaves o' of the whole buffer o, and answers the place behind the text
+pub record WroteAt (t : Text) (at : ℕ) (o o' : List ℕ) (r : ℕ) : Type 0 where
+  pub counted : r ≡ min (at + length t) MOST
+  pub shown : o' ≡ overlayAt at t o

@@ -1,3 +1,4 @@
 pub mod SmtEngines
 pub mod Command
 pub mod Reader
+pub mod Written

@@ -1,0 +1,3 @@
+pub mod Steps
+mod Marking
+mod Declaring

@@ -1,0 +1,29 @@
+use Rattle.levels.proofs.Marking.{join-new, join-old}
+use borrow.Author.Needs.{needs}
+use Rattle.levels.proofs.marks.mark.Statement.{statement}
+use Rattle.levels.proofs.marks.mark.Tie as tie
+use Rattle.levels.proofs.marks.mark.Reads as reads
+use Rattle.levels.proofs.marks.mark.Lts as lts
+
+-- src/marks.rt:13:8
+slice-read-if1 : tie.Need-slice-read-if1
+slice-read-if1 c = search needs
+
+-- src/marks.rt:14:9
+slice-write-levels : tie.Need-slice-write-levels
+slice-write-levels c = search needs
+
+-- src/marks.rt:9:1
+same-length : tie.Need-same-length
+same-length c = search needs
+
+-- src/marks.rt:9:1
+returns : tie.Need-returns
+returns c = join-new _ _ _ (c .if1 .taken) (c .before .before .pre)
+
+-- src/marks.rt:9:1
+returns-2 : tie.Need-returns-2
+returns-2 c = join-old _ _ _ (c .if1 .left)
+
+pub mark-spec : {M : Type 1} → statement M
+mark-spec = tie.close (tie.spec slice-read-if1 slice-write-levels same-length returns returns-2)
