@@ -4,19 +4,19 @@ ghost use Rattle.book.specs.Book.{types, constants, functions, size};
 ghost use Rattle.book_test.specs.Promise.{Range};
 ghost use Rattle.levels.specs.Did.{Ready, Did};
 ghost use Rattle.levels.specs.Types.{userTypeStep, typeStep, typesStep, constantTypesStep, constantStep, functionStep};
-use book::field;
-use book::format::CONSTANTS;
-use book::format::CONSTANT_TYPE;
-use book::format::FUNCTIONS;
-use book::format::FUNCTION_INPUTS;
-use book::format::FUNCTION_TYPE;
-use book::format::LISTED;
-use book::format::LISTS;
-use book::format::USER_TYPES;
 use super::CONSTANT_PLACES;
 use super::FUNCTION_PLACES;
 use super::Progress;
 use super::marks::mark;
+use book::field;
+use book::format::CONSTANT_TYPE;
+use book::format::CONSTANTS;
+use book::format::FUNCTION_INPUTS;
+use book::format::FUNCTION_TYPE;
+use book::format::FUNCTIONS;
+use book::format::LISTED;
+use book::format::LISTS;
+use book::format::USER_TYPES;
 
 // User type k.
 fn declare_type(
@@ -35,7 +35,10 @@ fn declare_type(
         let at = so.at;
         let missing = so.missing;
         let n = smt_engines::declare_sort(book, k, at, out);
-        Progress { at: n, missing: missing }
+        Progress {
+            at: n,
+            missing: missing,
+        }
     } else {
         so
     }
@@ -124,7 +127,10 @@ pub fn declare_constant(
     let missing = done.missing;
     mark(CONSTANT_PLACES + k, level, levels);
     let n = smt_engines::declare_constant(book, k, at, out);
-    Progress { at: n, missing: missing }
+    Progress {
+        at: n,
+        missing: missing,
+    }
 }
 
 // Function k, and its types.
@@ -148,5 +154,8 @@ pub fn declare_function(
     let missing = done.missing;
     mark(FUNCTION_PLACES + k, level, levels);
     let n = smt_engines::declare_function(book, k, at, out);
-    Progress { at: n, missing: missing }
+    Progress {
+        at: n,
+        missing: missing,
+    }
 }

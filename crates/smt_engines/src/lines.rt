@@ -7,23 +7,23 @@ ghost use Rattle.book.specs.Decode.{constantOf, functionOf, literalOf};
 ghost use Rattle.book_test.specs.Promise.{Promise, GoodLiteral};
 ghost use Rattle.smt_engines.specs.Command.{Push, Pop, CheckSat, GetModel, DeclareSort, DeclareConstant, DeclareFunction, DeclareLiteral, script};
 ghost use Rattle.smt_engines.specs.Written.{typeDeclOf, signatureText};
-use basics::put_at;
-use book::field;
-use book::format::CONSTANTS;
-use book::format::CONSTANT_NAME;
-use book::format::CONSTANT_TYPE;
-use book::format::FUNCTIONS;
-use book::format::FUNCTION_INPUTS;
-use book::format::FUNCTION_NAME;
-use book::format::FUNCTION_TYPE;
-use book::format::LITERAL_TYPE;
-use book::format::TERMS;
-use book::format::TYPES;
-use book::format::TYPE_NAME;
-use records::named;
 use super::names::put_literal_name;
 use super::names::put_type;
 use super::names::put_types;
+use basics::put_at;
+use book::field;
+use book::format::CONSTANT_NAME;
+use book::format::CONSTANT_TYPE;
+use book::format::CONSTANTS;
+use book::format::FUNCTION_INPUTS;
+use book::format::FUNCTION_NAME;
+use book::format::FUNCTION_TYPE;
+use book::format::FUNCTIONS;
+use book::format::LITERAL_TYPE;
+use book::format::TERMS;
+use book::format::TYPE_NAME;
+use book::format::TYPES;
+use records::named;
 
 pub fn push(at: usize, out: &mut [u8]) -> usize
     ensures { λ r. ⌜ WroteAt (script (Push ∷ [])) at (now (out .entry)) (now (out .exit)) r ⌝ }
@@ -80,7 +80,13 @@ fn put_signature(book: &[u8], k: usize, at: usize, out: &mut [u8]) -> usize
     let name = put_at(named(book, FUNCTIONS, k, FUNCTION_NAME), head, out);
     let space = put_at(b" ", name, out);
     let start = field(book, FUNCTIONS, k, FUNCTION_INPUTS);
-    put_types(book, start, field(book, FUNCTIONS, k, FUNCTION_INPUTS + 1), space, out)
+    put_types(
+        book,
+        start,
+        field(book, FUNCTIONS, k, FUNCTION_INPUTS + 1),
+        space,
+        out,
+    )
 }
 
 // Function k.

@@ -15,8 +15,8 @@ use book::format::LISTS;
 use book::format::LITERAL_NAME;
 use book::format::LITERAL_TYPE;
 use book::format::TERMS;
-use book::format::TYPES;
 use book::format::TYPE_NAME;
+use book::format::TYPES;
 use book::format::USER_TYPES;
 use records::named;
 
@@ -53,13 +53,7 @@ fn put_next_type(book: &[u8], typ: usize, at: usize, out: &mut [u8]) -> usize
 }
 
 // Types, each after a space.
-fn put_more_types(
-    book: &[u8],
-    start: usize,
-    count: usize,
-    at: usize,
-    out: &mut [u8],
-) -> usize
+fn put_more_types(book: &[u8], start: usize, count: usize, at: usize, out: &mut [u8]) -> usize
     requires { ⌜ Promise (now book) × Range (now book) (2 + size (now book) types) start count ⌝ }
     ensures { λ r. ⌜ WroteAt (spacedTypes (now (book .entry)) start count) at (now (out .entry)) (now (out .exit)) r ⌝ }
 {
