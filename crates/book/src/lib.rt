@@ -50,7 +50,7 @@ fn wide(x: u8) -> usize
 }
 
 // The number that stands at `at`.
-fn word(book: &[u8], at: usize) -> usize
+pub fn word(book: &[u8], at: usize) -> usize
     requires { ⌜ at + 4 ≤ length (now book) ⌝ }
     ensures { λ r. ⌜ Reads (word (now (book .entry)) at) r ⌝ }
 {

@@ -2,6 +2,7 @@ pub mod Good
 pub mod Paths
 pub mod Route
 pub mod Standing
+pub mod Cleared
 pub mod Contexts
 pub mod Ladders
 pub mod Questions

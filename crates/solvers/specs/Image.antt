@@ -7,7 +7,7 @@ use lib.ListN.{length, getD, drop}
 use Rattle.basics.specs.Text.{if_then_else_}
 use Rattle.basics.specs.Outcome.{Outcome, refused, accepted}
 use Rattle.book.specs.Book.{Book, word}
-use Rattle.rsolver.specs.LevelState.{levelCount}
+use Rattle.rsolver.specs.LevelState.{levelCount, noLevels}
 use Rattle.solvers.specs.declared.Owed.{Owed}
 use Rattle.solvers.specs.declared.Owed.the-variants.{Nothing, Reply, Model}
 use Rattle.solvers.specs.declared.Session.{Session}
@@ -46,7 +46,7 @@ writeImage s = bytes4 imageKind ++ bytes4 (s .node) ++ bytes4 (s .goal) ++ bytes
 
 -- no book has this node, so that test 20 refuses it
 unfoldable pub noSession : Session
-noSession = session 0xFFFFFFFF 0 Nothing []
+noSession = session 0xFFFFFFFF 0 Nothing noLevels
 
 unfoldable pub isImage : List ℕ → Bool
 isImage image = eqb (length image) imageSize && eqb (word image 0) imageKind && ltb (word image 12) (length owedValues)

@@ -1,5 +1,6 @@
 // Solvers.dfy: the session. The definitions and the stack rule are in specs/; the code comes with the session.
 use book::Refusal;
+pub use session_levels::LEVELS;
 
 // What an open question waits for.
 pub enum Owed {
@@ -7,9 +8,6 @@ pub enum Owed {
     Reply,
     Model,
 }
-
-// The places of the levels: the largest counts of types, constants, functions, axioms and terms together.
-pub const LEVELS: usize = 1600;
 
 // A session between calls: the present node, the open question's goal or 0, what is owed, and the level of each record.
 pub struct Session {

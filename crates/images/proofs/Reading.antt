@@ -1,0 +1,60 @@
+-- Reading an image.
+use Prim.Native.Nat.{ℕ, zero, suc, _≤_}
+use native.Mathlib.Omega.{arith}
+use native.Mathlib.Decide.{decLe}
+use mathlib.Core.Path.{_≡_, refl, sym, ap, _∙_}
+use mathlib.Core.Bool.{true, false, _&&_}
+use mathlib.Core.List.{List}
+use lib.Dec.{eqb, leb, ltb}
+use lib.ListN.{length, drop}
+use borrow.Author.Tests.{eq-eqb, ne-eqb, eqb-true, le-leb, lt-leb, lt-ltb, le-ltb}
+use Rattle.basics.proofs.Bool.{and-both}
+use Rattle.book.specs.Book.{word}
+use Rattle.solvers.specs.declared.Owed.{Owed}
+use Rattle.solvers.specs.declared.Owed.the-variants.{Nothing}
+use Rattle.solvers.specs.declared.Session.{Session}
+use Rattle.solvers.specs.Session.{session}
+use Rattle.solvers.specs.Image.{imageKind, headSize, imageSize, owedValues, owedOf, noSession, isImage, readImage}
+
+-- every other number
+pub owed-other : (n : ℕ) → ¬ (n ≡ 1) → ¬ (n ≡ 2) → Nothing ≡ owedOf n
+unfolding owedOf
+owed-other zero h k = refl
+owed-other (suc zero) h k = absurd (h refl)
+owed-other (suc (suc zero)) h k = absurd (k refl)
+owed-other (suc (suc (suc n))) h k = refl
+
+owed-known : (n : ℕ) → leb n 2 ≡ ltb n (length owedValues)
+owed-known n = at (decLe n 2)
+  where
+    at : Dec (n ≤ 2) → leb n 2 ≡ ltb n (length owedValues)
+    at (yes h) = le-leb n 2 h ∙ sym (lt-ltb n (length owedValues) (omega arith))
+    at (no h) = lt-leb n 2 (omega arith) ∙ sym (le-ltb n (length owedValues) (omega arith))
+
+-- the three tests of an image
+pub other-length : (image : List ℕ) → ¬ (length image ≡ imageSize) → false ≡ isImage image
+unfolding isImage
+other-length image h = rw (ne-eqb (length image) imageSize h)
+
+pub other-kind : (image : List ℕ) {k : ℕ} → length image ≡ imageSize → k ≡ word image 0 → ¬ (k ≡ imageKind) → false ≡ isImage image
+unfolding isImage
+other-kind image l e h = rw (eq-eqb (length image) imageSize l, ← e, ne-eqb _ imageKind h)
+
+pub owed-decides : (image : List ℕ) {k owed : ℕ} → length image ≡ imageSize → k ≡ word image 0 → k ≡ imageKind → owed ≡ word image 12 → leb owed 2 ≡ isImage image
+unfolding isImage
+owed-decides image {owed = owed} l e h o = rw (eq-eqb (length image) imageSize l, ← e, eq-eqb _ imageKind h, ← o) (owed-known owed)
+
+pub image-long : (image : List ℕ) → isImage image ≡ true → length image ≡ imageSize
+unfolding isImage
+image-long image h =
+    let k = and-both (eqb (length image) imageSize && eqb (word image 0) imageKind) (ltb (word image 12) (length owedValues)) h in
+    eqb-true _ _ (and-both (eqb (length image) imageSize) (eqb (word image 0) imageKind) (k .0) .0)
+
+pub read-none : (image : List ℕ) {s : Session} → isImage image ≡ false → s ≡ noSession → s ≡ readImage image
+unfolding readImage
+read-none image h e = rw h e
+
+pub read-some : (image : List ℕ) {node goal owed : ℕ} {o : Owed} {levels : List ℕ} → isImage image ≡ true → node ≡ word image 4 → goal ≡ word image 8
+    → owed ≡ word image 12 → o ≡ owedOf owed → levels ≡ drop headSize image → session node goal o levels ≡ readImage image
+unfolding readImage
+read-some image h n g w o l = rw h (λ i. session (n i) (g i) ((o ∙ ap owedOf w) i) (l i))

@@ -1,0 +1,147 @@
+// The byte image of a session, which the host holds (docs/SESSION.md): kind, node, goal and what is owed, then a byte for each level.
+ghost use mathlib.Core.Path.{_≡_};
+ghost use Prim.Native.Nat.{_+_, _≤_};
+ghost use lib.ListN.{length, drop};
+ghost use Rattle.book.specs.Book.{word};
+ghost use Rattle.solvers.specs.Image.{imageSize, headSize, bytes4, owedNumber, owedOf, noSession, isImage, readImage, writeImage};
+ghost use Rattle.images.specs.Placed.{placed};
+use session_levels::LEVELS;
+use solvers::Owed;
+use solvers::Session;
+
+// The words of an image, and what stands behind them.
+const KIND_AT: usize = 0;
+
+const NODE_AT: usize = 4;
+
+const GOAL_AT: usize = 8;
+
+const OWED_AT: usize = 12;
+
+const LEVELS_AT: usize = 16;
+
+pub const IMAGE: usize = LEVELS_AT + LEVELS;
+
+// The only layout.
+const KIND: u32 = 1;
+
+// What is owed. No number is larger than the last.
+const NOTHING: u32 = 0;
+
+const REPLY: u32 = 1;
+
+const MODEL: u32 = 2;
+
+// The session of an image that is none: no book has its node.
+const NO_NODE: u32 = 0xFFFF_FFFF;
+
+const NO_GOAL: u32 = 0;
+
+// As many values as one byte has, two, three.
+const BYTE: u32 = 0x100;
+
+const BYTES2: u32 = 0x10000;
+
+const BYTES3: u32 = 0x1000000;
+
+fn word(image: &[u8], at: usize) -> u32
+    requires { ⌜ at + 4 ≤ length (now image) ⌝ }
+    ensures { λ r. ⌜ r ≡ word (now (image .entry)) at ⌝ }
+{
+    book::word(image, at) as u32
+}
+
+fn put_word(image: &mut [u8], at: usize, x: u32)
+    requires { ⌜ at + 4 ≤ length (now image) ⌝ }
+    ensures { λ _. ⌜ now (image .exit) ≡ placed at (bytes4 x) (now (image .entry)) ⌝ }
+{
+    image[at] = (x % BYTE) as u8;
+    image[at + 1] = (x / BYTE % BYTE) as u8;
+    image[at + 2] = (x / BYTES2 % BYTE) as u8;
+    image[at + 3] = (x / BYTES3 % BYTE) as u8;
+}
+
+fn owed_number(owed: Owed) -> u32
+    ensures { λ r. ⌜ r ≡ owedNumber owed ⌝ }
+{
+    match owed {
+        Owed::Nothing => NOTHING,
+        Owed::Reply => REPLY,
+        Owed::Model => MODEL,
+    }
+}
+
+fn owed_of(n: u32) -> Owed
+    ensures { λ r. ⌜ r ≡ owedOf n ⌝ }
+{
+    match n {
+        REPLY => Owed::Reply,
+        MODEL => Owed::Model,
+        _ => Owed::Nothing,
+    }
+}
+
+fn is_image(image: &[u8]) -> bool
+    ensures { λ r. ⌜ r ≡ isImage (now (image .entry)) ⌝ }
+{
+    if image.len() != IMAGE {
+        return false;
+    }
+    if word(image, KIND_AT) != KIND {
+        return false;
+    }
+    word(image, OWED_AT) <= MODEL
+}
+
+fn no_session() -> Session
+    ensures { λ r. ⌜ r ≡ noSession ⌝ }
+{
+    let levels = session_levels::blank();
+    Session {
+        node: NO_NODE,
+        goal: NO_GOAL,
+        owed: Owed::Nothing,
+        levels: levels,
+    }
+}
+
+fn levels_of(image: &[u8]) -> [u8; LEVELS]
+    requires { ⌜ length (now image) ≡ imageSize ⌝ }
+    ensures { λ r. ⌜ r ≡ drop headSize (now (image .entry)) ⌝ }
+{
+    let mut levels = session_levels::blank();
+    basics::put_all(&image[LEVELS_AT..], &mut levels);
+    levels
+}
+
+// Any bytes are read. Those that are no image give a session that every call refuses.
+pub fn load(image: &[u8]) -> Session
+    ensures { λ r. ⌜ r ≡ readImage (now (image .entry)) ⌝ }
+{
+    if !is_image(image) {
+        return no_session();
+    }
+    let node = word(image, NODE_AT);
+    let goal = word(image, GOAL_AT);
+    let owed = owed_of(word(image, OWED_AT));
+    let levels = levels_of(image);
+    Session {
+        node: node,
+        goal: goal,
+        owed: owed,
+        levels: levels,
+    }
+}
+
+pub fn save(s: Session, image: &mut [u8])
+    requires { ⌜ length (now image) ≡ imageSize ⌝ }
+    ensures { λ _. ⌜ now (image .exit) ≡ writeImage s ⌝ }
+{
+    let owed = s.owed;
+    let levels = s.levels;
+    put_word(image, KIND_AT, KIND);
+    put_word(image, NODE_AT, s.node);
+    put_word(image, GOAL_AT, s.goal);
+    put_word(image, OWED_AT, owed_number(owed));
+    basics::put_all(&levels, &mut image[LEVELS_AT..]);
+}

@@ -1,0 +1,51 @@
+// The levels that a session stores: for each record the level where it was declared, 0 for not declared.
+ghost use mathlib.Core.Path.{_≡_};
+ghost use Prim.Native.Nat.{_+_};
+ghost use lib.Dec.{leb};
+ghost use Rattle.basics.specs.Text.{same, if_then_else_};
+ghost use Rattle.rsolver.specs.LevelState.{noLevels, forget};
+
+// The places of the levels: the largest counts of types, constants, functions, axioms and terms together.
+pub const LEVELS: usize = 1600;
+
+// Nothing is declared. Written in place, the zeros would stand one by one in every proof.
+pub fn blank() -> [u8; LEVELS]
+    ensures { λ r. ⌜ r ≡ noLevels ⌝ }
+{
+    [0; LEVELS]
+}
+
+// What is left of a level when all deeper than `depth` are left.
+fn kept(level: u8, depth: usize) -> u8
+    ensures { λ r. ⌜ r ≡ (if leb (depth + 1) level then 0 else level) ⌝ }
+{
+    if depth < level as usize { 0 } else { level }
+}
+
+// What was declared deeper than `depth` is not declared any more.
+pub fn clear_above(levels: &mut [u8], depth: usize)
+    ensures { λ _. ⌜ now (levels .exit) ≡ forget (depth + 1) (now (levels .entry)) ⌝ }
+{
+    let mut i = 0;
+    while i < levels.len() {
+        levels[i] = kept(levels[i], depth);
+        i += 1;
+    }
+}
+
+// The same bytes.
+pub fn same(a: &[u8], b: &[u8]) -> bool
+    ensures { λ r. ⌜ r ≡ same (now (a .entry)) (now (b .entry)) ⌝ }
+{
+    if a.len() != b.len() {
+        return false;
+    }
+    let mut i = 0;
+    while i < a.len() {
+        if a[i] != b[i] {
+            return false;
+        }
+        i += 1;
+    }
+    true
+}
