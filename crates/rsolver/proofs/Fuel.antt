@@ -80,9 +80,9 @@ module _ (p : Program) where
     pub deep : 0 < length (s .stack)
     pub wide : axiomPlaces + length (p .axioms) ≤ length (s .levels)
 
-  record Falls (f : Step LevelState) : Type 0 where
-    stays : (s : LevelState) → Inside s → Inside (f s)
-    falls : (s : LevelState) → Inside s → undeclared p (f s) ≤ undeclared p s
+  pub record Falls (f : Step LevelState) : Type 0 where
+    pub stays : (s : LevelState) → Inside s → Inside (f s)
+    pub falls : (s : LevelState) → Inside s → undeclared p (f s) ≤ undeclared p s
 
   skip-f : Falls skip
   unfolding skip
@@ -129,7 +129,7 @@ module _ (p : Program) where
   falls-at k ls zero h = absurd (not-suc-le-zero h)
   falls-at k ls (suc n) h = undeclared-join axiomPlaces (length (p .axioms)) ls k n
 
-  mark-f : (k : ℕ) → Falls (declareAt k)
+  pub mark-f : (k : ℕ) → Falls (declareAt k)
   unfolding declareAt undeclared
   mark-f k =
       record {
@@ -181,7 +181,7 @@ module _ (p : Program) where
   unless-a′ : {n : ℕ} (test : LevelState → Bool) {f g : Step LevelState} → Agree n f g → Agree n (unless test f) (unless test g)
   unless-a′ test F = unless-a test (F .first) (λ s e i l. F .agree s i l)
 
-  mark-new : (k : ℕ) (s : LevelState) → Inside s → k < length (p .axioms) → isDeclaredAt (axiomPlaces + k) s ≡ false
+  pub mark-new : (k : ℕ) (s : LevelState) → Inside s → k < length (p .axioms) → isDeclaredAt (axiomPlaces + k) s ≡ false
       → undeclared p (declareAt (axiomPlaces + k) s) < undeclared p s
   unfolding declareAt undeclared isDeclaredAt
   mark-new k s i h e = new (length (s .stack)) (i .deep)
@@ -250,6 +250,39 @@ module _ (p : Program) where
   walk-f zero e x = skip-f
   walk-f (suc fuel) e x = declare-a 0 _ _ (λ c y. walk-f fuel c y) (λ c y s i h. refl) e x .first
 
+  -- ---- what walks an axiom's term with some fuel never declares fewer axioms
+  pub symbols-fall : (fuel : ℕ) (e : RExpr) (x : List ℕ) → Falls (declareSymbols (levelled p) p (λ c y. walk (levelled p) p fuel c y) e x)
+  symbols-fall fuel e x = declare-a 0 _ _ (λ c y. walk-f fuel c y) (λ c y s i h. refl) e x .first
+
+  pub all-fall : (fuel : ℕ) (es : RExprs) (x : List ℕ) → Falls (declareAllSymbols (levelled p) p (λ c y. walk (levelled p) p fuel c y) es x)
+  all-fall fuel es x = declares-a 0 _ _ (λ c y. walk-f fuel c y) (λ c y s i h. refl) es x .first
+
+  pub patterns-fall : (fuel : ℕ) (ps : RPatterns) (x : List ℕ) → Falls (declarePatternSymbols (levelled p) p (λ c y. walk (levelled p) p fuel c y) ps x)
+  patterns-fall fuel ps x = patterns-a 0 _ _ (λ c y. walk-f fuel c y) (λ c y s i h. refl) ps x .first
+
+  pub operator-falls : (fuel : ℕ) (op : ROperator) (x : List ℕ) → Falls (declareOperator (levelled p) p (λ c y. walk (levelled p) p fuel c y) op x)
+  operator-falls fuel op x = operator-a 0 _ _ (λ c y. walk-f fuel c y) (λ c y s i h. refl) op x .first
+
+  pub axioms-fall : (fuel : ℕ) (ks : List ℕ) (x : List ℕ) → Falls (for ks (includeAxiom (levelled p) p (λ c y. walk (levelled p) p fuel c y) x))
+  axioms-fall fuel ks x = for-f ks (λ k. include-axiom-a 0 _ _ (λ c y. walk-f fuel c y) (λ c y s i h. refl) x k .first)
+
+  pub types-fall : (ts : List SType) → Falls (for ts (declareNewTypes (levelled p)))
+  types-fall ts = for-f ts types-f
+
+  pub type-falls : (t : SType) → Falls (declareNewTypes (levelled p) t)
+  type-falls t = types-f t
+
+  pub then-falls : {f g : Step LevelState} → Falls f → Falls g → Falls (f ⨟ g)
+  then-falls F G = then-f F G
+
+  pub variables-fall : (vv : List SConstant) → Falls (for vv (declareTypeOf (levelled p)))
+  unfolding declareTypeOf
+  variables-fall vv = for-f vv (λ v. types-f (v .typ))
+
+  pub function-falls : (f : Function) → Falls (declareFunction (levelled p) f)
+  unfolding declareFunction
+  function-falls f = told-f _ _
+
   -- with more fuel than there are undeclared axioms, the walk is the same
   pub fuel-free : (n fuel fuel′ : ℕ) → n < fuel → n < fuel′ → (e : RExpr) (x : List ℕ) (s : LevelState) → Inside s → undeclared p s ≤ n
       → walk (levelled p) p fuel e x s ≡ walk (levelled p) p fuel′ e x s
@@ -262,7 +295,7 @@ module _ (p : Program) where
       declare-a (suc n) _ _ (λ c y. walk-f f c y)
       (λ c y t j m. fuel-free n f f′ (le-of-suc-le-suc h) (le-of-suc-le-suc h′) c y t j (le-of-suc-le-suc m)) e x .agree s i l
 
-undeclared-most : (a n : ℕ) (ls : List ℕ) → undeclaredIn a n ls ≤ n
+pub undeclared-most : (a n : ℕ) (ls : List ℕ) → undeclaredIn a n ls ≤ n
 unfolding undeclaredIn
 undeclared-most a zero ls = le-refl _
 undeclared-most a (suc n) ls = omega (arith, one (getD ls (a + n) 0), undeclared-most a n ls)

@@ -1,0 +1,42 @@
+-- A set of constants, by their numbers, in 32 bytes: a bit for each.
+use Prim.Native.Nat.{ℕ, _/_, _%_, _<_}
+use mathlib.Core.Path.{_≡_}
+use mathlib.Core.Bool.{Bool, _||_}
+use mathlib.Core.List.{List, [], _∷_, map}
+use lib.Dec.{eqb}
+use lib.ListN.{length, getD}
+use Rattle.basics.specs.Lists.{member}
+use Rattle.book.specs.Book.{Book, entries}
+use Rattle.book.specs.Decode.{constantOf}
+use Rattle.rsolver.specs.REngine.{withConstants}
+
+-- what each bit of a byte counts
+abbrev pub powers : List ℕ
+powers = 1 ∷ 2 ∷ 4 ∷ 8 ∷ 16 ∷ 32 ∷ 64 ∷ 128 ∷ []
+
+abbrev pub power : ℕ → ℕ
+power i = getD powers i 0
+
+unfoldable pub hasBit : ℕ → ℕ → Bool
+hasBit byte i = eqb (byte / power i % 2) 1
+
+unfoldable pub isExcluded : List ℕ → ℕ → Bool
+isExcluded set v = hasBit (getD set (v / 8) 0) (v % 8)
+
+-- the set holds the constants of the list
+pub record Excludes (set exclude : List ℕ) : Type 0 where
+  pub long : length set ≡ 32
+  pub same : (v : ℕ) → v < 256 → isExcluded set v ≡ member v exclude
+
+-- the set with one more
+pub record Joined (set set' : List ℕ) (v : ℕ) : Type 0 where
+  pub long : length set' ≡ 32
+  pub joins : (w : ℕ) → w < 256 → isExcluded set' w ≡ (eqb w v || isExcluded set w)
+
+-- exclude with the constants in a range of lists
+unfoldable pub withRange : Book → (start count : ℕ) → List ℕ → List ℕ
+withRange b start count exclude = withConstants (map (constantOf b) (entries b start count)) exclude
+
+-- whatever list the set holds, set' holds those of the range besides
+pub record Ranged (b : Book) (start count : ℕ) (set set' : List ℕ) : Type 0 where
+  pub ranges : (exclude : List ℕ) → Excludes set exclude → Excludes set' (withRange b start count exclude)

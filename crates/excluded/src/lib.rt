@@ -1,0 +1,69 @@
+// The constants that a walk leaves out, as a set by value: 32 bytes, a bit for each of 256 numbers.
+ghost use mathlib.Core.Path.{_≡_};
+ghost use mathlib.Core.Bool.{false};
+ghost use mathlib.Core.List.{[]};
+ghost use Prim.Native.Nat.{_+_, _<_};
+ghost use lib.ListN.{length};
+ghost use Rattle.book.specs.Book.{constants, size};
+ghost use Rattle.book_test.specs.Promise.{Promise, Range};
+ghost use Rattle.excluded.specs.Excluded.{power, hasBit, isExcluded, Excludes, Joined, Ranged};
+use book::field;
+use book::format::LISTED;
+use book::format::LISTS;
+
+pub const SIZE: usize = 32;
+
+// What each bit of a byte counts.
+const POWERS: [u8; 8] = [1, 2, 4, 8, 16, 32, 64, 128];
+
+// Nothing is excluded.
+pub fn nothing() -> [u8; SIZE]
+    ensures { λ r. ⌜ Excludes r [] ⌝ }
+{
+    [0; SIZE]
+}
+
+// Constant v is in the set.
+pub fn has(set: &[u8; SIZE], v: usize) -> bool
+    requires { ⌜ (length (now set) ≡ 32) × (v < 256) ⌝ }
+    ensures { λ r. ⌜ r ≡ isExcluded (now (set .entry)) v ⌝ }
+{
+    set[v / 8] / POWERS[v % 8] % 2 == 1
+}
+
+// A byte with bit i, which it hasn't.
+fn with_bit(byte: u8, i: usize) -> u8
+    requires { ⌜ (i < 8) × (hasBit byte i ≡ false) ⌝ }
+    ensures { λ r. ⌜ r ≡ byte + power i ⌝ }
+{
+    byte + POWERS[i]
+}
+
+// The set with constant v.
+pub fn with(set: &[u8; SIZE], v: usize) -> [u8; SIZE]
+    requires { ⌜ (length (now set) ≡ 32) × (v < 256) ⌝ }
+    ensures { λ r. ⌜ Joined (now (set .entry)) r v ⌝ }
+{
+    let mut all = *set;
+    if has(set, v) {
+        return all;
+    }
+    all[v / 8] = with_bit(all[v / 8], v % 8);
+    all
+}
+
+// The set with the constants in a range of lists.
+pub fn with_constants(book: &[u8], start: usize, count: usize, set: &[u8; SIZE]) -> [u8; SIZE]
+    requires { ⌜ Promise (now book) × Range (now book) (size (now book) constants) start count × (length (now set) ≡ 32) ⌝ }
+    ensures { λ r. ⌜ Ranged (now (book .entry)) start count (now (set .entry)) r ⌝ }
+{
+    let mut all = *set;
+    let mut i = 0;
+    while i < count {
+        let v = field(book, LISTS, start + i, LISTED);
+        let next = with(&all, v);
+        all = next;
+        i += 1;
+    }
+    all
+}
