@@ -1,13 +1,30 @@
--- A node's depth, one step from a node to its parent after the other.
-use Prim.Native.Nat.{ℕ, zero, suc, _-_, _<_, _≤_}
+-- The depth of one node after the other, each from its parent's.
+use Prim.Native.Nat.{ℕ, zero, suc, _+_, _<_, _≤_}
 use native.Mathlib.Omega.{arith}
-use native.Mathlib.Numerals.{sub-one}
-use mathlib.Core.Path.{_≡_, refl, ap}
+use native.Mathlib.Numerals.{add-one}
+use native.Mathlib.Decide.{ℕ-discrete}
+use mathlib.Core.Path.{_≡_, refl, sym, ap, _∙_}
 use mathlib.Core.Bool.{true, false}
-use lib.Dec.{leb, leb·zero, leb·suc-zero, leb·suc-suc}
-use Rattle.book.specs.Book.{Book, contexts, size, field}
-use Rattle.book_depth.specs.Depth.{steps, nodeDepth}
+use mathlib.Core.List.{List}
+use lib.ListN.{length, getD, set, replicate, length-set, length-replicate}
+use lib.Seq.{getD-set-same, getD-set-other}
+use borrow.Author.Tests.{le-leb, lt-leb}
+use Rattle.book.specs.Book.{Book, contexts, size, field, depthMost}
+use Rattle.book_depth.specs.Depth.{steps, nodeDepth, isShallow}
 use Rattle.book_depth.specs.Rooted.{Rooted}
+
+-- the depths of the root and the first i nodes stand in the table
+pub record Known (b : Book) (ds : List ℕ) (i : ℕ) : Type 0 where
+  pub long : length ds ≡ 513
+  pub each : (k : ℕ) → k ≤ i → getD ds k 0 ≡ nodeDepth b k
+
+pub root-known : (b : Book) (ds : List ℕ) → ds ≡ replicate 513 0 → Known b ds 0
+unfolding nodeDepth steps
+root-known b ds e =
+    record {
+      long = ap {B = ℕ} length e ∙ length-replicate {A = ℕ} 513 0;
+      each = λ k l. let z : k ≡ 0 = omega arith in rw (z, e);
+    }
 
 module _ (b : Book) (R : Rooted b) where
   -- any fuel from the node's number up is the same
@@ -23,19 +40,32 @@ module _ (b : Book) (R : Rooted b) where
       let p : field b contexts i 0 ≤ i = R .parent i l in
       ap suc (enough f g (field b contexts i 0) (omega arith) (omega arith) (omega arith))
 
-  pub at-root : (k n : ℕ) → n ≡ 0 → leb (nodeDepth b n) k ≡ true
+  below-parent : (i : ℕ) → i < size b contexts → nodeDepth b (suc i) ≡ suc (nodeDepth b (field b contexts i 0))
   unfolding nodeDepth steps
-  at-root k n e = rw e (leb·zero k)
+  below-parent i l =
+      let p : field b contexts i 0 ≤ i = R .parent i l in
+      ap suc (enough i (field b contexts i 0) (field b contexts i 0) p (omega arith) (omega arith))
 
-  pub too-deep : (k n : ℕ) → k ≡ 0 → 0 < n → leb (nodeDepth b n) k ≡ false
-  unfolding nodeDepth steps
-  too-deep k zero e l = absurd (omega arith)
-  too-deep k (suc i) e l = rw e (leb·suc-zero (steps b i (field b contexts i 0)))
+  -- the next node, whose parent p has depth d
+  module _ (ds : List ℕ) (i p : ℕ) (known : Known b ds i) (l : i < size b contexts) (e : p ≡ field b contexts i 0) where
+    next-depth : nodeDepth b (suc i) ≡ suc (getD ds p 0)
+    next-depth =
+        let h : p ≤ i = omega (arith, R .parent i l) in
+        below-parent i l ∙ rw (← e) (ap suc (sym (known .each p h)))
 
-  pub one-up : (k n : ℕ) → (k ≡ 0 → ⊥) → 0 < n → n ≤ size b contexts → leb (nodeDepth b (field b contexts (n - 1) 0)) (k - 1) ≡ leb (nodeDepth b n) k
-  unfolding nodeDepth steps
-  one-up zero n h l m = absurd (h refl)
-  one-up (suc k) zero h l m = absurd (omega arith)
-  one-up (suc k) (suc i) h l m =
-      let p : field b contexts i 0 ≤ i = R .parent i m in
-      rw (sub-one, sub-one, enough i (field b contexts i 0) (field b contexts i 0) p (omega arith) (omega arith), leb·suc-suc)
+    pub next-known : i + 1 < 513 → Known b (set ds (i + 1) (getD ds p 0 + 1)) (i + 1)
+    next-known s = record { long = length-set ds (i + 1) (getD ds p 0 + 1) ∙ known .long; each = λ k h. by k h (ℕ-discrete k (i + 1)) }
+      where
+        by : (k : ℕ) → k ≤ i + 1 → Dec (k ≡ i + 1) → getD (set ds (i + 1) (getD ds p 0 + 1)) k 0 ≡ nodeDepth b k
+        by k h (yes q) =
+            rw (q, getD-set-same ds (i + 1) (getD ds p 0 + 1) 0 (omega (arith, known .long)))
+            (add-one (getD ds p 0) ∙ sym next-depth ∙ ap (nodeDepth b) (sym (add-one i)))
+        by k h (no q) = getD-set-other ds (i + 1) k (getD ds p 0 + 1) 0 q ∙ known .each k (omega arith)
+
+    pub next-shallow : getD ds p 0 < depthMost → isShallow b i ≡ true
+    unfolding isShallow
+    next-shallow h = rw next-depth (le-leb (suc (getD ds p 0)) depthMost h)
+
+    pub next-deep : depthMost ≤ getD ds p 0 → isShallow b i ≡ false
+    unfolding isShallow
+    next-deep h = rw next-depth (lt-leb (suc (getD ds p 0)) depthMost (omega arith))

@@ -1,44 +1,40 @@
 // Refusal 6: no node is deeper than the limit.
 ghost use mathlib.Core.Path.{_≡_};
-ghost use Prim.Native.Nat.{_<_};
-ghost use Rattle.book.specs.Book.{contexts, size};
+ghost use lib.ListN.{replicate};
+ghost use Rattle.book.specs.Book.{contexts};
 ghost use Rattle.book.specs.Laid.{Laid};
-ghost use Rattle.book_depth.specs.Depth.{isShallow, shallow};
+ghost use Rattle.book_depth.specs.Depth.{shallow};
 ghost use Rattle.book_depth.specs.Rooted.{Rooted};
 use book::count;
 use book::field;
-use book::format::CONTEXT_PARENT;
-use book::format::CONTEXTS;
+use book::format::*;
 
-const DEPTH_MOST: usize = 64;
+const DEPTH_MOST: u8 = 64;
 
-// Whether the root is at most DEPTH_MOST steps above node i + 1: the walk stops there, wherever it has come.
-fn is_shallow(book: &[u8], i: usize) -> bool
-    requires { ⌜ Laid (now book) contexts × Rooted (now book) × (i < size (now book) contexts) ⌝ }
-    ensures { λ r. ⌜ r ≡ isShallow (now (book .entry)) i ⌝ }
+// The root, and as many nodes as there can be contexts.
+const NODES: usize = 513;
+
+fn no_depths() -> [u8; NODES]
+    ensures { λ r. ⌜ r ≡ replicate 513 0 ⌝ }
 {
-    let mut node = i + 1;
-    let mut left = DEPTH_MOST;
-    while 0 < node {
-        if left == 0 {
-            return false;
-        }
-        node = field(book, CONTEXTS, node - 1, CONTEXT_PARENT);
-        left -= 1;
-    }
-    true
+    [0u8; NODES]
 }
 
+// A parent is smaller than its node, so its depth is known when the node is reached: one step for each node.
 pub fn shallow(book: &[u8]) -> bool
     requires { ⌜ Laid (now book) contexts × Rooted (now book) ⌝ }
     ensures { λ r. ⌜ r ≡ shallow (now (book .entry)) ⌝ }
 {
+    let mut depths = no_depths();
     let n = count(book, CONTEXTS);
     let mut i = 0;
     while i < n {
-        if !is_shallow(book, i) {
+        let parent = field(book, CONTEXTS, i, CONTEXT_PARENT);
+        let depth = depths[parent];
+        if DEPTH_MOST <= depth {
             return false;
         }
+        depths[i + 1] = depth + 1;
         i += 1;
     }
     true

@@ -1,54 +1,54 @@
+use Prim.Native.Nat.{_<_, _≤_, _-_}
+use native.Mathlib.Omega.{arith}
+use mathlib.Core.Bool.{true}
+use mathlib.Core.Path.{_≡_, refl, sym}
 use borrow.Author.Needs.{needs}
-use Rattle.book_depth.specs.Depth.{isShallow, shallow}
 use Rattle.basics.proofs.Loops.{all-none, all-more, all-stop, all-done}
 use Rattle.basics.specs.Lists.{allBelow}
-use mathlib.Core.Bool.{true}
-use mathlib.Core.Path.{_≡_}
-use native.Mathlib.Omega.{arith}
-use Prim.Native.Nat.{_≤_, _-_}
+use Rattle.book.specs.Book.{contexts, size}
+use Rattle.book_depth.specs.Depth.{isShallow, shallow}
+use Rattle.book_depth.proofs.Path.{Known, root-known, next-known, next-shallow, next-deep}
 use Rattle.book_depth.proofs.shallow.Statement.{statement}
 use Rattle.book_depth.proofs.shallow.Tie as tie
-use Rattle.book_depth.proofs.shallow.Reads as reads
-use Rattle.book_depth.proofs.shallow.Lts as lts
-use Rattle.book.proofs.count.Reads as count-reads
-use Rattle.book_depth.proofs.is_shallow.Reads as is-shallow-reads
 
 abbrev Inv-loop : tie.InvT-loop
-Inv-loop book n i₀ i = (i ≤ n) × (allBelow i (isShallow book) ≡ true)
+Inv-loop book depths₀ n i₀ depths i = (i ≤ n) × (allBelow i (isShallow book) ≡ true) × Known book depths i
 
 abbrev μ-loop : tie.MeasureT-loop
-μ-loop book n i₀ i = n - i
+μ-loop book depths₀ n i₀ depths i = n - i
 
--- src/lib.rt:36:9
-count-requires : tie.Need-count-requires Inv-loop μ-loop
-count-requires c κs = search needs
-
--- src/lib.rt:38:5
 loop-holds : tie.Need-loop-holds Inv-loop μ-loop
-loop-holds c = (search needs, all-none _)
+loop-holds c = (search needs, all-none _, root-known _ _ (c .before .no-depths .ensures))
 
--- src/lib.rt:39:13
-is-shallow-requires : tie.Need-is-shallow-requires Inv-loop μ-loop
-is-shallow-requires c κs = search needs
+array-read-depth : tie.Need-array-read-depth Inv-loop μ-loop
+array-read-depth c = omega (arith, c .field .ensures .is, c .before .before .before .before .before .before .pre .1 .parent (c .before .before .loop .i) (omega arith))
 
--- src/lib.rt:40:13
 returns : tie.Need-returns Inv-loop μ-loop
 unfolding shallow
-returns c = all-stop _ _ _ (c .before .is-shallow .ensures) (c .if1 .taken) (omega arith)
+returns c =
+    let k1 = c .before .before .before in
+    let s = k1 .before .before .before .before in
+    let l : k1 .loop .i < size (s .args .book .now) contexts = omega arith in
+    let deep = next-deep (s .args .book .now) (s .pre .1) (k1 .loop .depths) (k1 .loop .i) (c .before .field .result) (k1 .loop .inv .2) l (c .before .field .ensures .is) (c .if1 .taken) in
+    all-stop (isShallow (s .args .book .now)) _ (k1 .loop .i) (sym deep) refl l
 
--- src/lib.rt:42:9
-add-i : tie.Need-add-i Inv-loop μ-loop
-add-i c = search needs
+add-depths : tie.Need-add-depths Inv-loop μ-loop
+add-depths c = omega arith
 
--- src/lib.rt:38:5
-loop-less : tie.Need-loop-less Inv-loop μ-loop
-loop-less c = search needs
+array-write-depths : tie.Need-array-write-depths Inv-loop μ-loop
+array-write-depths c = omega arith
 
--- src/lib.rt:38:5
 loop-again : tie.Need-loop-again Inv-loop μ-loop
-loop-again c = (search needs, all-more _ _ (c .before .before .before .loop .inv .1) (c .before .is-shallow .ensures) (c .if1 .left))
+loop-again c =
+    let k1 = c .before .before .before in
+    let s = k1 .before .before .before .before in
+    let l : k1 .loop .i < size (s .args .book .now) contexts = omega arith in
+    let low = next-shallow (s .args .book .now) (s .pre .1) (k1 .loop .depths) (k1 .loop .i) (c .before .field .result) (k1 .loop .inv .2) l (c .before .field .ensures .is) (c .if1 .left) in (
+      search needs,
+      all-more (isShallow (s .args .book .now)) (k1 .loop .i) (k1 .loop .inv .1) (sym low) refl,
+      next-known (s .args .book .now) (s .pre .1) (k1 .loop .depths) (k1 .loop .i) (c .before .field .result) (k1 .loop .inv .2) l (c .before .field .ensures .is) (omega arith),
+    )
 
--- src/lib.rt:32:1
 returns-2 : tie.Need-returns-2 Inv-loop μ-loop
 unfolding shallow
 returns-2 c = all-done _ _ _ (c .before .loop .inv .1) (omega arith)
@@ -59,11 +59,16 @@ shallow-spec =
     (tie.spec
     Inv-loop
     μ-loop
-    count-requires
+    (λ c κs. search needs)
+    (λ c κs. search needs)
     loop-holds
-    is-shallow-requires
+    (λ c κs. search needs)
+    array-read-depth
     returns
-    add-i
-    loop-less
+    add-depths
+    (λ c. search needs)
+    array-write-depths
+    (λ c. search needs)
+    (λ c. search needs)
     loop-again
     returns-2)
