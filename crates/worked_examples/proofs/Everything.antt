@@ -8,7 +8,7 @@ use Rattle.basics.specs.Outcome.{refuse, _>>_, mapOutcome}
 use Rattle.basics.specs.Buffer.{overlay, bufferAfter, scratchAfter}
 use Rattle.book.specs.Refusal.{number}
 use Rattle.book.specs.Book.{offset, size, field, entries, letter, nameText}
-use Rattle.book.specs.Program.{nodeAt, pathUp, path, depth}
+use Rattle.book.specs.Program.{nodeAt, pathUp, path, depth, shared}
 use Rattle.book.specs.Decode.{kindOf, toRExprs, toRPatterns, typeOf, constantOf, functionOf, literalOf, argsOf, patternOf, termBy, termOver, firstTerms, term, literalBy, literalAt, axiomTerm, axiomOf, traceOf, contextOf, program}
 use Rattle.book_contents.specs.Contents.{laidFrom, laidOut, countFits, countsFit}
 use Rattle.book_fields.specs.Fields.{within, typeLimit, entryBelow, isRange, letterInRange, nameInRange, typeInRange, constantInRange, functionInRange, axiomInRange, patternInRange, contextInRange, fieldsInRange}
@@ -32,7 +32,7 @@ use Rattle.solvers.specs.Session.{textOf, freshSession, resume, moved, asked, m
 use Rattle.solvers.specs.Calls.{owes, goalFits, isSession, reasonOf, fitting, moveCall, askCall, replyCall, modelCall, hostOf, call}
 use Rattle.solvers.specs.Left.{answerValue, valuesBy, values, reason, sessionAfter, left, called}
 use Rattle.solvers.specs.Image.{bytes4, owedNumber, owedOf, writeImage, noSession, isImage, readImage, imageAfter, calledOnImage}
-use Rattle.solvers.specs.Rule.{shared, standing, settle, nodeCommands, levelsOf, goalState, goalCommands, denialCommands, goalLevels, levelsFor, entering, moveCommands, questionCommands, present, nextReply, next, nodeLevels, mustLive, sessionAt, replyCommands, said, after, runFrom, start, run, straightTo, straight}
+use Rattle.solvers.specs.Rule.{standing, settle, nodeCommands, levelsOf, goalState, goalCommands, denialCommands, goalLevels, levelsFor, entering, moveCommands, questionCommands, present, nextReply, next, nodeLevels, mustLive, sessionAt, replyCommands, said, after, runFrom, start, run, straightTo, straight}
 use Rattle.solvers.specs.ByBook.{moveByBook, askByBook, callByBook}
 use Rattle.solvers.specs.Bodies.{onReply, doCall, doIfAccepted, doFrom, doAll}
 
