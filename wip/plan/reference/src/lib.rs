@@ -1,0 +1,35 @@
+//! A separate reference of the script writer, from document 01 and the Dafny
+//! bodies. The public calls are plain functions on byte slices and numbers.
+#![deny(warnings)]
+
+pub mod book;
+pub mod book_test;
+pub mod chains;
+pub mod commands;
+pub mod damage;
+pub mod engine;
+pub mod image;
+pub mod levels;
+pub mod lower;
+pub mod maker;
+pub mod operators;
+pub mod plan;
+pub mod printing;
+pub mod program;
+pub mod random;
+pub mod random_books;
+mod random_terms;
+pub mod refusal;
+pub mod script;
+pub mod session;
+pub mod sexpr;
+pub mod sink;
+pub mod stack;
+pub mod walk;
+
+pub use book_test::book_test;
+pub use image::fresh_image;
+pub use operators::operator;
+pub use printing::{print, trace};
+pub use script::script;
+pub use session::{ask, model, move_to, reply, Replied};

@@ -1,0 +1,13 @@
+//! Tests of the readable plan form, its tool, and the box chains.
+#![deny(warnings)]
+
+mod bad_texts;
+mod chains;
+mod evaluation;
+mod forms;
+mod limits;
+mod noise;
+mod prints;
+mod round_trips;
+mod samples;
+mod tool;
