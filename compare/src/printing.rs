@@ -38,7 +38,7 @@ const TAGS: [u64; 4] = [0, 7, 1 << 32, u64::MAX];
 const FLAGS: [u32; 5] = [1, 7, 256, 1 << 31, u32::MAX];
 const ONE_LINE: u32 = 0;
 /// A text longer than this gets only buffers that are too short.
-const LONGEST: u64 = 1 << 22;
+const LONGEST: u64 = 1 << 24;
 const SHORT_ROOMS: [usize; 3] = [0, 1, 100];
 /// How much longer than its text a buffer is, at most.
 const LONGER: usize = 9;
