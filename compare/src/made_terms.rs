@@ -175,12 +175,26 @@ const STEPS: [(&str, usize, Step); 10] = [
 /// For each shape a book whose last term has all the others inside it, as many
 /// as a book can have.
 pub fn nests() -> Vec<(&'static str, Maker)> {
+    nests_of(Section::Terms.most())
+}
+
+/// The same with so many terms at most.
+pub fn nests_of(most: usize) -> Vec<(&'static str, Maker)> {
     STEPS
-        .map(|(name, terms, step)| (name, nest(terms, step)))
+        .map(|(name, terms, step)| (name, nest(most, terms, step)))
         .into()
 }
 
-fn nest(terms: usize, step: Step) -> Maker {
+/// A term with so many arguments of so many letters, the last of its book.
+pub fn flat(arguments: usize, letters: usize) -> Maker {
+    let mut m = Maker::default();
+    let v = m.constant(&"v".repeat(letters), INT);
+    let args = ids(&mut m, v, arguments);
+    m.built_in("and", &args);
+    m
+}
+
+fn nest(most: usize, terms: usize, step: Step) -> Maker {
     let mut maker = Maker::default();
     let v = maker.constant("v", INT);
     let vv = maker.list(&[v]);
@@ -195,9 +209,7 @@ fn nest(terms: usize, step: Step) -> Maker {
         patterns,
     };
     let mut inner = n.leaf();
-    while n.maker.terms.len() + terms <= Section::Terms.most()
-        && n.maker.patterns.len() < Section::Patterns.most()
-    {
+    while n.maker.terms.len() + terms <= most && n.maker.patterns.len() < Section::Patterns.most() {
         inner = step(&mut n, inner);
     }
     n.maker
