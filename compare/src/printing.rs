@@ -9,6 +9,7 @@ use crate::tally::{Met, Tally};
 use leskofar_reference::book_test::{check, MOST_DEPTH, SCRATCH_SIZE};
 use leskofar_reference::damage::damaged;
 use leskofar_reference::lower::to_sexpr;
+use leskofar_reference::maker::{sample, small};
 use leskofar_reference::operators::NAMES;
 use leskofar_reference::program::Program;
 use leskofar_reference::random::{Random, HARDLY_EVER, OFTEN, RARELY};
@@ -219,8 +220,7 @@ fn any_number(random: &mut Random, count: usize) -> u32 {
     }
 }
 
-/// Every term of a book, in every layout, with every buffer up to a bit longer
-/// than its text.
+/// Every term of a book, in every layout.
 fn compare_terms(book: &[u8], met: &mut Met) -> Result<(), String> {
     let program = check(book).map_err(|refusal| format!("refused {refusal}"))?;
     for term in 0..program.terms.len() as u32 {
@@ -246,7 +246,7 @@ fn compare_terms(book: &[u8], met: &mut Met) -> Result<(), String> {
 fn print_groups(tally: &mut Tally) {
     tally.group("print, terms at the borders", || {
         let mut met = Met::default();
-        for m in [borders(), full()] {
+        for m in [borders(), full(), sample().maker, small().maker] {
             compare_terms(&m.book(), &mut met)?;
         }
         met.all_of(&[0, 10])

@@ -38,14 +38,14 @@ impl Tally {
 pub struct Met<K = u32>(BTreeMap<K, usize>);
 
 impl<K: Copy + Display + Ord> Met<K> {
-    pub fn add(&mut self, answer: K) {
-        *self.0.entry(answer).or_default() += 1;
+    pub fn add(&mut self, key: K) {
+        *self.0.entry(key).or_default() += 1;
     }
 
     /// Fails if one of them was never met.
-    pub fn all_of(&self, answers: &[K]) -> Result<String, String> {
-        match answers.iter().find(|answer| !self.0.contains_key(answer)) {
-            Some(answer) => Err(format!("{answer} was never met")),
+    pub fn all_of(&self, keys: &[K]) -> Result<String, String> {
+        match keys.iter().find(|key| !self.0.contains_key(key)) {
+            Some(key) => Err(format!("{key} was never met")),
             None => Ok(self.said()),
         }
     }
@@ -55,7 +55,7 @@ impl<K: Copy + Display + Ord> Met<K> {
         let each: Vec<String> = self
             .0
             .iter()
-            .map(|(answer, times)| format!("{answer}: {times}"))
+            .map(|(key, times)| format!("{key}: {times}"))
             .collect();
         format!("{total} compared ({})", each.join(", "))
     }
