@@ -3,19 +3,22 @@ use Prim.Native.Nat.{ℕ, suc, _+_, _<_}
 use mathlib.Core.Path.{_≡_, sym, ap, _∙_}
 use mathlib.Core.List.{List, [], _∷_, _++_, append-assoc}
 use lib.ListN.{length}
-use Rattle.basics.specs.Write.{MOST, WroteAt}
+use Rattle.basics.specs.Write.{MOST, Wrote, WroteAt}
 use Rattle.basics.proofs.Places.{at-as}
 use Rattle.book.specs.Book.{Book}
 use Rattle.book.specs.Program.{path, depth}
 use Rattle.book.specs.Decode.{term, program}
 use Rattle.book_test.specs.Promise.{Promise}
 use Rattle.smt_engines.specs.Command.{Command, Push, AssumeNot, CheckSat, script}
-use Rattle.rsolver.specs.LevelState.{LevelState, levelState, levelled, push, send, count, sentBy}
+use Rattle.rsolver.specs.LevelState.{LevelState, levelState, levelled, levelCount, push, send, count, sentBy}
 use Rattle.rsolver.specs.REngine.{assumeNot, declareNewSymbols}
 use Rattle.levels.specs.declared.Progress.{Progress}
+use Rattle.session_levels.proofs.Filled.{overlay-whole}
 use Rattle.walk.specs.Walk.{Stands, NewSymbols}
 use Rattle.solvers.specs.Rule.{standing, goalState, goalCommands, denialCommands, questionCommands}
-use Rattle.engine.specs.Engine.{stateAt, Asked}
+use Rattle.solvers.proofs.Good.{good}
+use Rattle.solvers.proofs.Enough.{levels-length}
+use Rattle.engine.specs.Engine.{stateAt, Asked, Reached, Questioned}
 use Rattle.engine.proofs.Entering.{said-then, pushed}
 
 module _ {b : Book} (P : Promise b) (node t : ℕ) {level : ℕ} {ls ls' : List ℕ} {start done : Progress} {o o' : List ℕ} (at : level ≡ suc (depth (program b) node))
@@ -52,3 +55,12 @@ module _ {b : Book} (P : Promise b) (node t : ℕ) {level : ℕ} {ls ls' : List 
             ∙ (λ i. (Push ∷ g) ++ (Push ∷ sym (denial tag e) i) ++ (CheckSat ∷ []))))
             (said-then _ (CheckSat ∷ []) short (said-then _ d short (said-then _ (Push ∷ []) short (said-then (Push ∷ []) g short w1 said-goal) w2) w3) w4);
       }
+
+-- the move and the question
+module _ {b : Book} (old new t : ℕ) {ls : List ℕ} {moved r : Progress} {o o1 o2 : List ℕ} where
+  pub questioned : length o < MOST + 1 → Reached b old new ls o o1 moved → Asked b new t moved o1 o2 r → Questioned b old new t ls o o2 r
+  questioned short m a = record { levels = m .state .levels; missing = a .missing; text = said-then _ _ short (m .text) (a .text) }
+
+-- the goal's own levels begin as a copy of the node's
+pub copied : {b : Book} (P : Promise b) (node : ℕ) {ls o inner : List ℕ} {n : ℕ} → ls ≡ stateAt b node .levels → length o ≡ levelCount → Wrote ls o inner n → inner ≡ stateAt b node .levels
+copied {b} P node {ls} {o} e wide w = w .shown ∙ overlay-whole ls o (ap length e ∙ levels-length (program b) (good b P) (path (program b) node) ∙ sym wide) ∙ e

@@ -13,6 +13,7 @@ use Rattle.book.specs.Program.{Context, nodeAt, path, depth}
 use Rattle.book.specs.Decode.{contextOf, term, program}
 use Rattle.book.proofs.Terms.{node-at}
 use Rattle.book_test.specs.Promise.{Promise}
+use Rattle.contexts.proofs.Climb.{depth-few}
 use Rattle.smt_engines.specs.Command.{Command, Push, Assume, script}
 use Rattle.smt_engines.proofs.Hearing.{script-append}
 use Rattle.rsolver.specs.Step.{_⨟_}
@@ -115,3 +116,7 @@ depth-is b node d nodes e l h = omega (arith, ap length e, length-take d nodes)
 
 pub same-wide : {b : Book} (P : Promise b) (ns ns' : List ℕ) {ls ls' : List ℕ} → ls ≡ standing (program b) ns .levels → ls' ≡ standing (program b) ns' .levels → length ls' ≡ length ls
 same-wide {b} P ns ns' e f = ap length f ∙ levels-length (program b) (good b P) ns' ∙ sym (ap length e ∙ levels-length (program b) (good b P) ns)
+
+pub few-deep : {b : Book} → Promise b → (node : ℕ) → node ≤ size b contexts → depth (program b) node ≤ depthMost
+unfolding depth
+few-deep {b} P node h = depth-few b P node h

@@ -2,7 +2,7 @@
 use Prim.Native.Nat.{ℕ, suc, _≤_, _<_}
 use mathlib.Core.Path.{_≡_}
 use mathlib.Core.Bool.{false}
-use mathlib.Core.List.{List, [], _∷_, reverse}
+use mathlib.Core.List.{List, [], _∷_, _++_, reverse}
 use lib.ListN.{length, take, drop}
 use Rattle.basics.specs.Write.{WroteAt}
 use Rattle.book.specs.Book.{Book, terms, contexts, size}
@@ -69,3 +69,17 @@ pub record Asking (b : Book) (node t k : ℕ) (ls : List ℕ) (so : Progress) : 
 pub record Asked (b : Book) (node goal : ℕ) (so : Progress) (o o' : List ℕ) (r : Progress) : Type 0 where
   pub missing : r .missing ≡ goalState (program b) node (term b goal) .missing
   pub text : WroteAt (script (questionCommands (program b) node (term b goal))) (so .at) o o' (r .at)
+
+-- the move to the node, and the question
+pub record Questioning (b : Book) (old new t : ℕ) (ls : List ℕ) : Type 0 where
+  pub promise : Promise b
+  pub from : old ≤ size b contexts
+  pub to : new ≤ size b contexts
+  pub levels : ls ≡ stateAt b old .levels
+  pub clear : stateAt b old .missing ≡ false
+  pub goal : t < size b terms
+
+pub record Questioned (b : Book) (old new t : ℕ) (ls : List ℕ) (o o' : List ℕ) (r : Progress) : Type 0 where
+  pub levels : ls ≡ stateAt b new .levels
+  pub missing : r .missing ≡ goalState (program b) new (term b t) .missing
+  pub text : WroteAt (script (moveCommands (program b) old new ++ questionCommands (program b) new (term b t))) 0 o o' (r .at)

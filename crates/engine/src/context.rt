@@ -14,7 +14,7 @@ use levels::Progress;
 use session_levels::clear_above;
 use smt_engines::pop;
 
-fn depth_of(book: &[u8], node: usize) -> usize
+pub fn depth_of(book: &[u8], node: usize) -> usize
     requires { ⌜ IsNode (now book) node ⌝ }
     ensures { λ r. ⌜ r ≡ depth (program (now (book .entry))) node ⌝ }
 {

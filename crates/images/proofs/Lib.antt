@@ -1,2 +1,3 @@
 mod Stored
 mod Reading
+pub mod Accepted

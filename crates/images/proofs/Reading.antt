@@ -10,6 +10,7 @@ use lib.ListN.{length, drop}
 use borrow.Author.Tests.{eq-eqb, ne-eqb, eqb-true, le-leb, lt-leb, lt-ltb, le-ltb}
 use Rattle.basics.proofs.Bool.{and-both}
 use Rattle.book.specs.Book.{word}
+use Rattle.rsolver.specs.LevelState.{noLevels}
 use Rattle.solvers.specs.declared.Owed.{Owed}
 use Rattle.solvers.specs.declared.Owed.the-variants.{Nothing}
 use Rattle.solvers.specs.declared.Session.{Session}
@@ -49,6 +50,10 @@ unfolding isImage
 image-long image h =
     let k = and-both (eqb (length image) imageSize && eqb (word image 0) imageKind) (ltb (word image 12) (length owedValues)) h in
     eqb-true _ _ (and-both (eqb (length image) imageSize) (eqb (word image 0) imageKind) (k .0) .0)
+
+pub no-session : {levels : List ℕ} → levels ≡ noLevels → session 0xFFFFFFFF 0 Nothing levels ≡ noSession
+unfolding noSession
+no-session e = ap (session 0xFFFFFFFF 0 Nothing) e
 
 pub read-none : (image : List ℕ) {s : Session} → isImage image ≡ false → s ≡ noSession → s ≡ readImage image
 unfolding readImage

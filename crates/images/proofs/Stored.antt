@@ -1,14 +1,13 @@
 -- Bytes that are stored one after the other.
 use Prim.Native.Nat.{ℕ, suc, _+_, _-_, _≤_}
 use native.Mathlib.Omega.{arith}
-use native.Mathlib.Nat.{le-of-eq}
 use mathlib.Core.Path.{_≡_, refl, sym, ap, _∙_}
 use mathlib.Core.List.{List, [], _∷_, _++_, append-nil}
 use lib.ListN.{length, take, drop, set, length-append, length-drop, drop-of-length-le}
 use lib.Seq.{sets-eq, take-at, drop-at, drop-drop, take-all, drop-append-add}
-use Rattle.basics.specs.Buffer.{overlay}
 use Rattle.basics.specs.Write.{Wrote}
-use Rattle.basics.proofs.Laws.{overlay-fits, joined}
+use Rattle.basics.proofs.Laws.{joined}
+use Rattle.session_levels.proofs.Filled.{overlay-whole}
 use Rattle.rsolver.specs.LevelState.{levelCount}
 use Rattle.solvers.specs.declared.Session.{Session}
 use Rattle.solvers.specs.Image.{bytes4, imageKind, headSize, imageSize, owedNumber, writeImage}
@@ -22,10 +21,6 @@ four-stored l at a b c d h =
     let e2 : at + 2 ≡ suc (suc at) = omega arith in
     let e3 : at + 3 ≡ suc (suc (suc at)) = omega arith in
     rw (e1, e2, e3) (sets-eq (a ∷ b ∷ c ∷ d ∷ []) l at h)
-
--- a text that fills its buffer
-pub overlay-whole : (t o : List ℕ) → length t ≡ length o → overlay t o ≡ t
-overlay-whole t o h = overlay-fits t o (le-of-eq h) ∙ ap (λ (r : List ℕ). t ++ r) (drop-of-length-le o {i = length t} (omega arith)) ∙ append-nil t
 
 -- what stands behind the head, written into a buffer as long
 pub filled : (image : List ℕ) {o q : List ℕ} {r : ℕ} → Wrote (take (length image - headSize) (drop headSize image)) o q r → length image ≡ imageSize → length o ≡ levelCount

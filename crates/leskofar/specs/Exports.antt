@@ -1,9 +1,15 @@
 -- How an outcome is told to C, and what C's flags mean.
 use Prim.Native.Nat.{ℕ}
 use mathlib.Core.Bool.{Bool, not}
+use mathlib.Core.List.{List}
 use lib.Dec.{eqb}
+use lib.ListN.{length}
+use Rattle.basics.specs.Text.{if_then_else_}
 use Rattle.basics.specs.Outcome.{Outcome, refused, accepted}
+use Rattle.solvers.specs.Left.{Values, written, proved, unproved}
+use Rattle.solvers.specs.Image.{imageSize}
 use Rattle.leskofar.specs.declared.print_calls.Told.{Told}
+use Rattle.leskofar.specs.declared.session_calls.Answered.{Answered}
 
 -- 0, or the number of the refusal
 unfoldable pub refusalOf : {A : Type 0} → Outcome A → ℕ
@@ -18,3 +24,14 @@ told (accepted n) = record { refusal = 0; length = n }
 -- a flag is any number, 0 or not 0
 abbrev pub flag : ℕ → Bool
 flag n = not (eqb n 0)
+
+-- the same of a session's call, with what it gives and the lengths of text and reason
+unfoldable pub answered : Outcome Values → Answered
+answered (refused n) = record { refusal = n; result = 0; text = 0; reason = 0 }
+answered (accepted (written n)) = record { refusal = 0; result = 0; text = n; reason = 0 }
+answered (accepted (proved n)) = record { refusal = 0; result = 1; text = n; reason = 0 }
+answered (accepted (unproved n m)) = record { refusal = 0; result = 2; text = n; reason = m }
+
+-- bytes that cannot hold an image are no session's
+unfoldable pub freshRefusal : List ℕ → ℕ
+freshRefusal image = if eqb (length image) imageSize then 0 else 20

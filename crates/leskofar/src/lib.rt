@@ -7,11 +7,18 @@ use book::Refusal;
 use book_test::Tested;
 
 mod print_calls;
+mod session_calls;
 
 pub use print_calls::Told;
 pub use print_calls::leskofar_operator;
 pub use print_calls::leskofar_print;
 pub use print_calls::leskofar_trace;
+pub use session_calls::Answered;
+pub use session_calls::leskofar_ask;
+pub use session_calls::leskofar_fresh;
+pub use session_calls::leskofar_model;
+pub use session_calls::leskofar_move;
+pub use session_calls::leskofar_reply;
 
 // The answer of an accepted call where a refusal's number would stand.
 const ACCEPTED: u32 = 0;

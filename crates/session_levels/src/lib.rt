@@ -15,7 +15,7 @@ pub fn blank() -> [u8; LEVELS]
     [0; LEVELS]
 }
 
-// What is left of a level when all deeper than `depth` are left.
+// A level, or 0 if it is deeper than `depth`.
 fn kept(level: u8, depth: usize) -> u8
     ensures { λ r. ⌜ r ≡ (if leb (depth + 1) level then 0 else level) ⌝ }
 {

@@ -14,7 +14,8 @@ use Rattle.basics.proofs.Texts.{same-eq}
 use Rattle.book.specs.Book.{Book, terms, contexts, size}
 use Rattle.book.specs.Program.{path}
 use Rattle.book.specs.Decode.{term, program}
-use Rattle.book_test.specs.BookTest.{bookTest, ready}
+use Rattle.book_test.specs.BookTest.{ready}
+use Rattle.book_test.specs.Promise.{Promise}
 use Rattle.book_test.proofs.Outcomes.{ready-passed}
 use Rattle.book_test.proofs.Promise.{promise}
 use Rattle.solver_expr.proofs.Clean.{CleanR}
@@ -42,19 +43,19 @@ unfolding refuse _>>_
 same-guard k true x y f = refl
 same-guard k false x y f = f refl
 
-module _ (b : Book) (ok : bookTest b ≡ accepted tt) where
+module _ (b : Book) (P : Promise b) where
   G : Good (program b)
-  G = good b (promise b ok)
+  G = good b P
 
   T : (t : ℕ) → t < size b terms → CleanR (term b t)
-  T = term-clean b (promise b ok)
+  T = term-clean b P
 
   -- a session that is not refused with 20, and owes Nothing, is the book's
-  record Known (s : Session) : Type 0 where
-    is : s ≡ sessionAt b (present (s .node) 0 Nothing)
-    fits : Fits b (present (s .node) 0 Nothing)
+  pub record Known (s : Session) : Type 0 where
+    pub is : s ≡ sessionAt b (present (s .node) 0 Nothing)
+    pub fits : Fits b (present (s .node) 0 Nothing)
 
-  known : (s : Session) → isSession (program b) s ≡ true → s .owed ≡ Nothing → Known s
+  pub known : (s : Session) → isSession (program b) s ≡ true → s .owed ≡ Nothing → Known s
   unfolding isSession goalFits sessionAt present
   known s v o =
       let at = standing (program b) (path (program b) (s .node)) in
@@ -108,15 +109,15 @@ by-book b s (moveTo h n) =
     same-guard 7 (ltb (size b contexts) n) _ _ λ e₇.
     same-guard 20 (not (isSession (program b) s)) _ _ λ e₂₀.
     same-guard 21 (not (owes (s .owed) Nothing)) _ _ λ e₂₁.
-    let ok = ready-passed _ b e₁ .1 in
-    move-same b ok s (known b ok s (not-false (isSession (program b) s) e₂₀) (owes-nothing (s .owed) e₂₁)) h n
+    let P = promise b (ready-passed _ b e₁ .1) in
+    move-same b P s (known b P s (not-false (isSession (program b) s) e₂₀) (owes-nothing (s .owed) e₂₁)) h n
 by-book b s (askFor h n t) =
     same-then (ready (length (h .scratch)) b) _ _ λ e₁.
     same-guard 7 (ltb (size b contexts) n || leb (size b terms) t) _ _ λ e₇.
     same-guard 20 (not (isSession (program b) s)) _ _ λ e₂₀.
     same-guard 21 (not (owes (s .owed) Nothing)) _ _ λ e₂₁.
-    let ok = ready-passed _ b e₁ .1 in
+    let P = promise b (ready-passed _ b e₁ .1) in
     let l = leb-false (size b terms) t (or-right (ltb (size b contexts) n) (leb (size b terms) t) e₇) in
-    ask-same b ok s (known b ok s (not-false (isSession (program b) s) e₂₀) (owes-nothing (s .owed) e₂₁)) h n t l
+    ask-same b P s (known b P s (not-false (isSession (program b) s) e₂₀) (owes-nothing (s .owed) e₂₁)) h n t l
 by-book b s (replyWith h o r) = refl
 by-book b s (modelWith h r m) = refl

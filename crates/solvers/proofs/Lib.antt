@@ -20,3 +20,4 @@ pub mod HostRun
 pub mod PlacedBook
 pub mod Bodies
 pub mod Theorem
+pub mod Returned

@@ -7,3 +7,4 @@ pub mod Rule
 pub mod Bodies
 pub mod StackRule
 pub mod ByBook
+pub mod Returned

@@ -1,4 +1,6 @@
-// Solvers.dfy: the session. The definitions and the stack rule are in specs/; the code comes with the session.
+// Solvers.dfy: the session. The definitions and the stack rule are in specs/; the calls are in the crates session_test, moves and replies.
+ghost use mathlib.Core.Path.{_≡_};
+ghost use Rattle.solvers.specs.Session.{freshSession};
 use book::Refusal;
 pub use session_levels::LEVELS;
 
@@ -23,4 +25,37 @@ pub enum Answer {
     Proved(usize),
     Unproved(usize, usize),
     Refused(Refusal),
+}
+
+// What a call returns.
+pub struct Called {
+    pub answer: Answer,
+    pub session: Session,
+}
+
+impl Session {
+    // At the root, with nothing declared.
+    pub fn fresh() -> Session
+        ensures { λ r. ⌜ r ≡ freshSession ⌝ }
+    {
+        let levels = session_levels::blank();
+        Session {
+            node: 0,
+            goal: 0,
+            owed: Owed::Nothing,
+            levels: levels,
+        }
+    }
+}
+
+impl Called {
+    // A refused call returns the session as received.
+    pub fn refused(why: Refusal, session: Session) -> Called
+        ensures { λ r. ⌜ r ≡ record { answer = Answer.Refused why; session = session } ⌝ }
+    {
+        Called {
+            answer: Answer::Refused(why),
+            session: session,
+        }
+    }
 }

@@ -1,0 +1,38 @@
+use Rattle.leskofar.specs.Exports.{answered}
+use Rattle.solvers.specs.Left.{answerValue}
+use borrow.Author.Needs.{needs}
+use Rattle.leskofar.proofs.session_calls.answer.Statement.{statement}
+use Rattle.leskofar.proofs.session_calls.answer.Tie as tie
+
+returns : tie.Need-returns
+unfolding answered answerValue
+returns c = cc
+
+returns-2 : tie.Need-returns-2
+unfolding answered answerValue
+returns-2 c = cc
+
+returns-3 : tie.Need-returns-3
+unfolding answered answerValue
+returns-3 c = cc
+
+returns-4 : tie.Need-returns-4
+unfolding answered answerValue
+returns-4 c = cc
+
+pub answer-spec : {M : Type 1} → statement M
+answer-spec =
+    tie.close
+    (tie.spec
+    (λ c. search needs)
+    (λ c κs. search needs)
+    (λ c. search needs)
+    (λ c κs. search needs)
+    (λ c. search needs)
+    (λ c κs. search needs)
+    (λ c. search needs)
+    (λ c κs. search needs)
+    returns
+    returns-2
+    returns-3
+    returns-4)

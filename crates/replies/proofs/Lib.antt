@@ -1,0 +1,2 @@
+mod Reasons
+mod Behind
