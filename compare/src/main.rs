@@ -5,10 +5,22 @@
 
 mod bench;
 mod book;
+mod buffers;
+mod calls;
+mod damaged_images;
 mod library;
+mod lists;
 mod made_books;
+mod made_sessions;
 mod made_terms;
 mod printing;
+mod random_calls;
+mod session_books;
+mod session_images;
+mod session_library;
+mod session_limits;
+mod session_shapes;
+mod sessions;
 mod shapes;
 mod tally;
 
@@ -22,6 +34,9 @@ fn main() -> ExitCode {
     let mut tally = tally::Tally::default();
     book::run(&mut tally);
     printing::run(&mut tally);
+    sessions::run(&mut tally);
+    session_images::run(&mut tally);
+    session_limits::run(&mut tally);
     if tally.close() {
         ExitCode::SUCCESS
     } else {

@@ -1,0 +1,63 @@
+//! Session calls on books at the limits, against the reference.
+
+use crate::calls::{Call, Measure, FAILED, OK};
+use crate::lists::{on_book, Seen, RESULTS};
+use crate::made_sessions::{axiom_chain, deep, nested_axioms, nested_nodes};
+use crate::session_shapes::SESSION_SHAPES;
+use crate::tally::Tally;
+use leskofar_reference::maker::Maker;
+use leskofar_reference::session::UNSAT;
+
+/// To the last node, its questions with every end, to the one before it, and
+/// back; each call with a text buffer too short by one, then long enough.
+fn tour(m: &Maker, measure: &mut Measure, seen: &mut Seen) -> Result<(), String> {
+    let node = m.contexts.len() as u32;
+    let goal = m.terms.len() as u32 - 1;
+    let ask = Call::Ask { node, goal };
+    let calls = [
+        Call::Move { node },
+        ask.clone(),
+        Call::reply(OK, UNSAT),
+        Call::Move { node: node - 1 },
+        ask,
+        Call::reply(OK, b"sat"),
+        Call::model(b"sat", Some(b"model")),
+        Call::Move { node: 0 },
+        Call::Ask { node: 0, goal },
+        Call::reply(FAILED, b"error"),
+    ];
+    let book = m.book();
+    on_book(m, |list| {
+        for call in calls {
+            let (text, reason) = measure.lengths(&call, &book, list.image());
+            if text > 0 {
+                list.step(&call, text - 1, reason, seen)?;
+            }
+            let left = list.step(&call, text, reason, seen)?;
+            if !left.accepted() {
+                return Err(format!("{:?} of {call:?}", left.answer));
+            }
+        }
+        Ok(())
+    })
+}
+
+pub fn run(tally: &mut Tally) {
+    tally.group("session, 64 nodes deep and a goal at level 65", || {
+        let mut seen = Seen::default();
+        tour(&deep(), &mut Measure::new(), &mut seen)?;
+        seen.shapes
+            .all_of(&SESSION_SHAPES[SESSION_SHAPES.len() - 2..])
+    });
+    tally.group("session, as deep as a book can nest", || {
+        let mut seen = Seen::default();
+        let mut measure = Measure::new();
+        let mut books = nested_nodes();
+        books.extend(nested_axioms());
+        books.push(("axioms of axioms".into(), axiom_chain()));
+        for (name, m) in books {
+            tour(&m, &mut measure, &mut seen).map_err(|what| format!("{name}: {what}"))?;
+        }
+        seen.results.all_of(&RESULTS[..RESULTS.len() - 1])
+    });
+}
