@@ -41,7 +41,7 @@ pub fn random_call(random: &mut Random, program: &Program, owed: Owed) -> Call {
         },
         1 => Call::Ask {
             node: node(random, program),
-            goal: number(random, program.terms.len()),
+            goal: goal(random, program),
         },
         2 => Call::Reply {
             ok: flag(random),
@@ -62,6 +62,16 @@ fn node(random: &mut Random, program: &Program) -> u32 {
         nodes.saturating_sub(random.below(2)) as u32
     } else {
         number(random, nodes + 1)
+    }
+}
+
+/// A term, at times the last, which has often others inside.
+fn goal(random: &mut Random, program: &Program) -> u32 {
+    let terms = program.terms.len();
+    if terms > 0 && random.one_in(AT_TIMES) {
+        terms as u32 - 1
+    } else {
+        number(random, terms)
     }
 }
 

@@ -8,8 +8,15 @@ use leskofar_reference::book_test::MOST_DEPTH;
 use leskofar_reference::maker::Maker;
 use leskofar_reference::random::{Random, AT_TIMES, HARDLY_EVER, OFTEN};
 
-const TYPE_NAMES: [&str; 4] = ["c", "b:c", "", "T"];
-const LITERAL_TEXTS: [&str; 5] = ["a:b", "a", "%tag", "", "%ta"];
+const TYPE_NAMES: [&str; 3] = ["c", "b:c", ""];
+/// Texts of literals, with the name of a type: two names are equal.
+const LITERALS: [(&str, &str); 5] = [
+    ("a:b", "c"),
+    ("a", "b:c"),
+    ("", ""),
+    ("%tag", "c"),
+    ("%ta", "c"),
+];
 const OPERATORS: [&str; 3] = ["and", "", "%tag"];
 const CONSTANTS: usize = 3;
 const FUNCTIONS: usize = 4;
@@ -23,8 +30,6 @@ const NESTING: usize = 2;
 const ENOUGH_TERMS: usize = Section::Terms.most() / 2;
 /// Nodes of usual books.
 const NODES: [usize; 6] = [0, 1, 2, 3, 5, 8];
-/// Terms that no node and no axiom has.
-const GOALS: usize = 2;
 /// Terms made of the same seed are equal.
 const SEEDS: usize = 3;
 
@@ -33,15 +38,13 @@ pub fn session_book(random: &mut Random) -> Maker {
         random,
         maker: Maker::default(),
         types: vec![BOOL, INT],
-        literal_texts: Vec::new(),
+        literals: Vec::new(),
         operators: Vec::new(),
     };
     writer.add_symbols();
     writer.add_axioms();
     writer.add_nodes();
-    for _ in 0..GOALS {
-        writer.term(NESTING);
-    }
+    writer.add_goal();
     writer.maker
 }
 
@@ -49,19 +52,24 @@ struct Writer<'r> {
     random: &'r mut Random,
     maker: Maker,
     types: Vec<u32>,
+    /// Name and type.
+    literals: Vec<[u32; 2]>,
     /// Names.
-    literal_texts: Vec<u32>,
     operators: Vec<u32>,
 }
 
 impl Writer<'_> {
     fn add_symbols(&mut self) {
-        for name in TYPE_NAMES {
-            if self.random.one_in(OFTEN) {
-                self.types.push(self.maker.user_type(name));
+        let user_types = TYPE_NAMES.map(|name| self.maker.user_type(name));
+        self.types.extend(user_types);
+        for (text, type_name) in LITERALS {
+            let text = self.maker.name(text);
+            for (name, typ) in TYPE_NAMES.iter().zip(user_types) {
+                if *name == type_name {
+                    self.literals.push([text, typ]);
+                }
             }
         }
-        self.literal_texts = LITERAL_TEXTS.map(|text| self.maker.name(text)).into();
         self.operators = OPERATORS.map(|name| self.maker.name(name)).into();
         for name in ["x", "y", ""].into_iter().cycle().take(CONSTANTS) {
             let typ = self.typ();
@@ -123,6 +131,14 @@ impl Writer<'_> {
         self.maker.context(parent, term);
     }
 
+    /// The last term, with a constant that no other term has.
+    fn add_goal(&mut self) {
+        let typ = self.typ();
+        let own = self.maker.constant("goal", typ);
+        let args = [self.maker.id(own), self.term(NESTING)];
+        self.maker.built_in("=", &args);
+    }
+
     /// A term of any kind, or a leaf where it may not nest.
     fn term(&mut self, nesting: usize) -> u32 {
         let is_leaf = nesting == 0 || self.maker.terms.len() > ENOUGH_TERMS;
@@ -133,8 +149,8 @@ impl Writer<'_> {
             kind::BOOLEAN => self.maker.boolean(true),
             kind::INTEGER => self.maker.integer(-1),
             kind::CUSTOM_LITERAL => {
-                let fields = [self.random.pick(&self.literal_texts), self.typ()];
-                self.maker.term(kind, fields)
+                let literal = self.random.pick(&self.literals);
+                self.maker.term(kind, literal)
             }
             kind::ID => {
                 let v = self.below(CONSTANTS as u32);
