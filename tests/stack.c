@@ -3,6 +3,7 @@
  * LESKOFAR_STACK and what a thread itself takes, with no page mapped behind it.
  */
 #define _DEFAULT_SOURCE
+#include "expect.h"
 #include "made_book.h"
 #include <leskofar.h>
 #include <limits.h>
@@ -44,21 +45,10 @@ struct nest {
     size_t list_count;
 };
 
-static int passed;
-static int failed;
 static uint8_t book[BOOK_SIZE];
 static size_t book_len;
 static uint8_t scratch[LESKOFAR_SCRATCH];
 static uint8_t text[TEXT_SIZE];
-
-static void expect(const char *name, int holds) {
-    if (holds) {
-        passed++;
-    } else {
-        failed++;
-        printf("FAILED: %s\n", name);
-    }
-}
 
 static uint32_t add_term(struct nest *n, const uint32_t fields[TERM_FIELDS]) {
     memcpy(n->terms[n->term_count], fields, sizeof n->terms[0]);
@@ -248,6 +238,5 @@ int main(void) {
     measure("book test", test_book, 0);
     measure("trace", trace_node, write_chain());
     measure("operator", name_operator, 1);
-    printf("%d passed, %d failed\n", passed, failed);
-    return failed != 0;
+    return close_tests();
 }
