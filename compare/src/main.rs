@@ -4,6 +4,7 @@
 #![deny(warnings)]
 
 mod bench;
+mod bench_sessions;
 mod book;
 mod buffers;
 mod calls;
@@ -23,6 +24,7 @@ mod session_shapes;
 mod sessions;
 mod shapes;
 mod tally;
+mod timing;
 
 use std::process::ExitCode;
 
