@@ -6,83 +6,24 @@
 use crate::calls::{Call, Given, Left, Measure};
 use crate::damaged_images::foreign;
 use crate::random_calls::random_call;
+use crate::seen::Seen;
 use crate::session_library::{PROVED, UNPROVED};
 use crate::session_shapes::{cyclic, Travelled};
-use crate::tally::Met;
 use leskofar_reference::book_test::{check, SCRATCH_SIZE};
+use leskofar_reference::commands::LINE_END;
 use leskofar_reference::damage::damaged;
 use leskofar_reference::fresh_image;
 use leskofar_reference::image::{Owed, Session};
 use leskofar_reference::maker::Maker;
 use leskofar_reference::program::{Program, ROOT};
 use leskofar_reference::random::{Random, AT_TIMES, HARDLY_EVER, OFTEN, RARELY};
-use leskofar_reference::refusal::SESSION;
+use leskofar_reference::refusal::{NO_MODEL_OWED, NO_REPLY_OWED, SESSION, SOMETHING_OWED};
 use leskofar_reference::stack::{expected_levels, Level, Reader};
 use std::collections::BTreeSet;
 
 /// How much longer than its text a buffer is.
 const LONGER: [usize; 4] = [1, 2, 9, 4096];
 const SHORT_SCRATCHES: [usize; 3] = [0, 1, SCRATCH_SIZE - 1];
-
-const MOVED: &str = "moved";
-const ASKED: &str = "asked";
-const IS_PROVED: &str = "proved";
-const CHECK_FAILED: &str = "check failed";
-const MODEL_OWED: &str = "model owed";
-const WITH_MODEL: &str = "unproved with a model";
-const WITHOUT_MODEL: &str = "unproved without a model";
-pub const RESULTS: [&str; 7] = [
-    MOVED,
-    ASKED,
-    IS_PROVED,
-    CHECK_FAILED,
-    MODEL_OWED,
-    WITH_MODEL,
-    WITHOUT_MODEL,
-];
-
-/// The refusals of each call, in the order of `Seen::refusals`.
-pub const REFUSALS: [(&str, &[u32]); 4] = [
-    ("move", &[0, 1, 2, 3, 4, 5, 6, 7, 20, 21, 9, 10]),
-    ("ask", &[0, 1, 2, 3, 4, 5, 6, 7, 20, 21, 9, 10]),
-    ("reply", &[0, 1, 2, 3, 4, 5, 6, 20, 22, 10]),
-    ("model", &[0, 1, 2, 3, 4, 5, 6, 20, 23, 8, 10]),
-];
-
-/// What the lists met.
-#[derive(Default)]
-pub struct Seen {
-    pub refusals: [Met; REFUSALS.len()],
-    pub results: Met<&'static str>,
-    pub shapes: Met<&'static str>,
-    pub images: Met<&'static str>,
-    /// The bytes of reasons.
-    pub reasons: Met<u8>,
-    /// Accepted calls whose live levels were held against the book's.
-    pub levels: usize,
-}
-
-impl Seen {
-    fn add(&mut self, call: &Call, left: &Left) {
-        let [refusal, result] = [left.answer.refusal, left.answer.result];
-        let (at, name) = match call {
-            Call::Move { .. } => (0, MOVED),
-            Call::Ask { .. } => (1, ASKED),
-            Call::Reply { .. } if result == PROVED => (2, IS_PROVED),
-            Call::Reply { .. } if result == UNPROVED => (2, CHECK_FAILED),
-            Call::Reply { .. } => (2, MODEL_OWED),
-            Call::Model { has_model: 0, .. } => (3, WITHOUT_MODEL),
-            Call::Model { .. } => (3, WITH_MODEL),
-        };
-        self.refusals[at].add(refusal);
-        if left.accepted() {
-            self.results.add(name);
-            for byte in left.reason() {
-                self.reasons.add(*byte);
-            }
-        }
-    }
-}
 
 pub struct List<'l, 'b> {
     maker: &'l Maker,
@@ -150,8 +91,9 @@ impl<'l, 'b> List<'l, 'b> {
             reason,
         })?;
         seen.add(call, &left);
-        if left.answer.refusal == SESSION {
-            return Err(format!("20 on its own image, of {call:?}"));
+        if left.answer.refusal == SESSION || !self.in_turn(call, &left) {
+            let answer = left.answer;
+            return Err(format!("{answer:?} on its own image, of {call:?}"));
         }
         if left.accepted() {
             self.accept(call, &left, seen)
@@ -159,6 +101,22 @@ impl<'l, 'b> List<'l, 'b> {
         }
         self.image = left.image().to_vec();
         Ok(left)
+    }
+
+    /// What is owed by the accepted calls decides which call is accepted, and
+    /// that 21 to 23 are for the others.
+    fn in_turn(&self, call: &Call, left: &Left) -> bool {
+        let its_turn = match call {
+            Call::Move { .. } | Call::Ask { .. } => Owed::Nothing,
+            Call::Reply { .. } => Owed::Reply,
+            Call::Model { .. } => Owed::Model,
+        };
+        let for_its_turn = [SOMETHING_OWED, NO_REPLY_OWED, NO_MODEL_OWED];
+        if self.owed == its_turn {
+            !for_its_turn.contains(&left.answer.refusal)
+        } else {
+            !left.accepted()
+        }
     }
 
     fn accept(&mut self, call: &Call, left: &Left, seen: &mut Seen) -> Result<(), String> {
@@ -206,10 +164,8 @@ impl<'l, 'b> List<'l, 'b> {
         if self.reader.levels() == levels {
             Ok(levels)
         } else {
-            Err(format!(
-                "live {:?}, expected {levels:?},",
-                self.reader.levels()
-            ))
+            let [live, expected] = [self.reader.levels(), &levels].map(readable);
+            Err(format!("live {live}, expected {expected},"))
         }
     }
 
@@ -260,6 +216,19 @@ pub fn on_book<T>(
     let book = m.book();
     let program = check(&book).map_err(|refusal| format!("refused {refusal}"))?;
     run(&mut List::new(m, &book, &program))
+}
+
+/// Levels with a line for each command, which is ASCII.
+fn readable(levels: &[Level]) -> String {
+    let lines = levels.iter().map(|level| level.join(&LINE_END));
+    let texts: Vec<Vec<u8>> = lines.collect();
+    format!(
+        "{:?}",
+        texts
+            .iter()
+            .map(|text| String::from_utf8_lossy(text))
+            .collect::<Vec<_>>()
+    )
 }
 
 /// A buffer for a text: just long enough, longer, too short by one, or none.

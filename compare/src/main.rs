@@ -12,15 +12,17 @@ mod damaged_images;
 mod library;
 mod lists;
 mod made_books;
+mod made_rules;
 mod made_sessions;
 mod made_terms;
 mod printing;
 mod random_calls;
+mod seen;
 mod session_books;
 mod session_images;
 mod session_library;
-mod session_limits;
 mod session_shapes;
+mod session_tours;
 mod sessions;
 mod shapes;
 mod tally;
@@ -38,7 +40,7 @@ fn main() -> ExitCode {
     printing::run(&mut tally);
     sessions::run(&mut tally);
     session_images::run(&mut tally);
-    session_limits::run(&mut tally);
+    session_tours::run(&mut tally);
     if tally.close() {
         ExitCode::SUCCESS
     } else {

@@ -2,7 +2,8 @@
 
 use crate::calls::{Call, Given, OK};
 use crate::damaged_images::FIELDS;
-use crate::lists::{on_book, Seen};
+use crate::lists::on_book;
+use crate::seen::Seen;
 use crate::tally::{Met, Tally};
 use leskofar_reference::book_test::SCRATCH_SIZE;
 use leskofar_reference::image::IMAGE_SIZE;

@@ -3,7 +3,8 @@
 use crate::buffers::Fenced;
 use crate::calls::{Call, Measure, FAILED, OK};
 use crate::damaged_images::manners;
-use crate::lists::{on_book, List, Seen, REFUSALS, RESULTS};
+use crate::lists::{on_book, List};
+use crate::seen::{Seen, REFUSALS, RESULTS};
 use crate::session_books::session_book;
 use crate::session_library;
 use crate::session_shapes::SESSION_SHAPES;
