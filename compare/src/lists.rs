@@ -7,13 +7,12 @@ use crate::calls::{Call, Given, Left, Measure};
 use crate::damaged_images::foreign;
 use crate::random_calls::random_call;
 use crate::seen::Seen;
-use crate::session_library::{PROVED, UNPROVED};
+use crate::session_library::{self as library, PROVED, UNPROVED};
 use crate::session_shapes::{cyclic, Travelled};
 use leskofar_reference::book_test::{check, SCRATCH_SIZE};
 use leskofar_reference::commands::LINE_END;
 use leskofar_reference::damage::damaged;
-use leskofar_reference::fresh_image;
-use leskofar_reference::image::{Owed, Session};
+use leskofar_reference::image::{Owed, Session, IMAGE_SIZE};
 use leskofar_reference::maker::Maker;
 use leskofar_reference::program::{Program, ROOT};
 use leskofar_reference::random::{Random, AT_TIMES, HARDLY_EVER, OFTEN, RARELY};
@@ -41,12 +40,14 @@ pub struct List<'l, 'b> {
 impl<'l, 'b> List<'l, 'b> {
     /// A list without calls; `program` is what the maker's `book` holds.
     pub fn new(maker: &'l Maker, book: &'b [u8], program: &'l Program<'b>) -> List<'l, 'b> {
+        let mut image = vec![0; IMAGE_SIZE];
+        library::fresh(&mut image);
         List {
             maker,
             book,
             program,
             cyclic: cyclic(program),
-            image: fresh_image().to_vec(),
+            image,
             reader: Reader::default(),
             node: ROOT as u32,
             goal: None,
@@ -218,17 +219,13 @@ pub fn on_book<T>(
     run(&mut List::new(m, &book, &program))
 }
 
-/// Levels with a line for each command, which is ASCII.
+/// Levels as their texts, which are ASCII.
 fn readable(levels: &[Level]) -> String {
-    let lines = levels.iter().map(|level| level.join(&LINE_END));
-    let texts: Vec<Vec<u8>> = lines.collect();
-    format!(
-        "{:?}",
-        texts
-            .iter()
-            .map(|text| String::from_utf8_lossy(text))
-            .collect::<Vec<_>>()
-    )
+    let texts = levels.iter().map(|level| level.join(&LINE_END));
+    let texts: Vec<String> = texts
+        .map(|text| String::from_utf8_lossy(&text).into_owned())
+        .collect();
+    format!("{texts:?}")
 }
 
 /// A buffer for a text: just long enough, longer, too short by one, or none.

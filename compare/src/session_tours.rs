@@ -12,6 +12,9 @@ use leskofar_reference::maker::Maker;
 use leskofar_reference::refusal::MISSING_AXIOM;
 use leskofar_reference::session::UNSAT;
 
+/// More than the text of a book with a missing axiom has.
+const ROOM: usize = 1 << 10;
+
 /// To the last node, its questions with every end, to the one before it, and
 /// back; each call with a text buffer too short by one, then long enough.
 fn tour(m: &Maker, measure: &mut Measure, seen: &mut Seen) -> Result<(), String> {
@@ -45,9 +48,6 @@ fn tour(m: &Maker, measure: &mut Measure, seen: &mut Seen) -> Result<(), String>
         Ok(())
     })
 }
-
-/// More than the small books' texts have.
-const ROOM: usize = 1 << 10;
 
 fn rule_groups(tally: &mut Tally) {
     tally.group("session, rules of the walk", || {
