@@ -184,7 +184,9 @@ static inline struct written write_axioms(uint8_t *book, const struct shape *s, 
         uint32_t applied = add_term(&n, (const uint32_t[TERM_FIELDS]){FUNCTION, next});
         uint32_t start = add_entry(&n, i);
         const uint32_t function[FUNCTION_FIELDS] = {ONE, INT, ONE, 0, start, 1};
-        const uint32_t axiom[AXIOM_FIELDS] = {nest_around(&n, s, applied, share * (i + 1)), start, 1};
+        /* The first axiom has what is left over. */
+        const size_t most = MOST_TERMS - 1 - share * (count - 1 - i);
+        const uint32_t axiom[AXIOM_FIELDS] = {nest_around(&n, s, applied, most), start, 1};
         memcpy(n.functions[i], function, sizeof function);
         memcpy(n.axioms[i], axiom, sizeof axiom);
     }
