@@ -43,10 +43,13 @@ enum leskofar_refusal {
 #define LESKOFAR_SCRATCH 1024
 
 /*
- * Bytes of stack that are enough for any call, beside what the caller and its thread take. The deepest terms that a book can hold need
- * nearly all of it (docs/PERFORMANCE.md); every other call needs a few thousand bytes.
+ * Bytes of stack that are enough for any call without a session, beside what the caller and its thread take. The deepest terms that a
+ * book can hold need nearly all of it (docs/PERFORMANCE.md); every other call needs a few thousand bytes.
  */
 #define LESKOFAR_STACK (200 * 1024)
+
+/* The same for a call on a session, which walks the terms and axioms that it declares. */
+#define LESKOFAR_SESSION_STACK (2048 * 1024)
 
 /*
  * Tests a book: refusals 1 to 6, the first that holds, each decided for the whole book before the next; 0 for a good book.
@@ -81,6 +84,64 @@ leskofar_printed leskofar_trace(const uint8_t *book, size_t book_len, uint8_t *s
  * takes neither a book nor a scratch.
  */
 leskofar_printed leskofar_operator(uint32_t code, uint8_t *text, size_t text_len);
+
+/* Bytes of a session's image (docs/SESSION.md). The host keeps the image, and hands it to each call on the session. */
+#define LESKOFAR_IMAGE 1616
+
+/* What a call on a session leads to. */
+enum leskofar_result {
+    LESKOFAR_WRITTEN = 0, /* a text for the solver; after ask a reply is owed, after reply a model */
+    LESKOFAR_PROVED = 1,  /* the question is closed, and its goal follows at its node */
+    LESKOFAR_UNPROVED = 2 /* the question is closed, and the reason says why nothing is proved */
+};
+
+/* What a call on a session answers. Where it is refused, all is 0 but the refusal. */
+typedef struct {
+    uint32_t refusal;
+    uint32_t result; /* of enum leskofar_result */
+    uint64_t text;   /* the length of the text, which is to be sent to the solver as it is */
+    uint64_t reason; /* the length of the reason where nothing is proved, else 0 */
+} leskofar_answer;
+
+/*
+ * Writes the image of a fresh session, to begin with and whenever a new solver is started: 0, or 20 where the length is not
+ * LESKOFAR_IMAGE; then nothing is touched.
+ */
+uint32_t leskofar_fresh(uint8_t *image, size_t image_len);
+
+/*
+ * Moves the session to a node, 0 for the root: refusals 1 to 7, 20, 21, 9 and 10, the first that holds in this order. The text has pops
+ * up to the deepest shared node, then for each node below it a push, the declarations and the assertion; it is empty where the session
+ * is there already. An accepted call changes the image. Bytes behind the text keep what they hold; a refused call changes neither the
+ * image nor the text.
+ */
+leskofar_answer leskofar_move(const uint8_t *book, size_t book_len, uint8_t *scratch, size_t scratch_len, uint8_t *image,
+                              size_t image_len, uint32_t node, uint8_t *text, size_t text_len);
+
+/*
+ * Moves the session to a node and asks there whether a term, the goal, follows. Refusals and buffers as above. The text ends in
+ * (check-sat), and a reply is owed: until the question is closed, move and ask are refused.
+ */
+leskofar_answer leskofar_ask(const uint8_t *book, size_t book_len, uint8_t *scratch, size_t scratch_len, uint8_t *image,
+                             size_t image_len, uint32_t node, uint32_t goal, uint8_t *text, size_t text_len);
+
+/*
+ * Takes what came of the check: refusals 1 to 6, 20, 22 and 10, in this order. `ok` is a flag, 0 where the check failed; `reply` then is
+ * its error text, and the goal is unproved with that text as the reason. Else `reply` is the solver's reply without its line end: the
+ * five bytes unsat prove the goal; after any other the text is (get-model), and a model is owed. The reason buffer is touched only where
+ * there is a reason. A refused call changes neither the image nor the text nor the reason.
+ */
+leskofar_answer leskofar_reply(const uint8_t *book, size_t book_len, uint8_t *scratch, size_t scratch_len, uint8_t *image,
+                               size_t image_len, uint32_t ok, const uint8_t *reply, size_t reply_len, uint8_t *text, size_t text_len,
+                               uint8_t *reason, size_t reason_len);
+
+/*
+ * Takes the same reply once more, and the model where the flag `has_model` is not 0: refusals 1 to 6, 20, 23, 8 and 10, in this order.
+ * The goal is unproved; the reason is the reply and, where a model came, a line end and the model. Buffers as above.
+ */
+leskofar_answer leskofar_model(const uint8_t *book, size_t book_len, uint8_t *scratch, size_t scratch_len, uint8_t *image,
+                               size_t image_len, const uint8_t *reply, size_t reply_len, uint32_t has_model, const uint8_t *model,
+                               size_t model_len, uint8_t *text, size_t text_len, uint8_t *reason, size_t reason_len);
 
 #ifdef __cplusplus
 }

@@ -85,7 +85,7 @@ fi
 part 'the library, against the reference and from C'
 if rt staticlib leskofar >"$log" 2>&1 && need cargo cargo && need cc gcc; then
     counted 'comparison' cargo run --quiet --offline --release --manifest-path compare/Cargo.toml
-    for test in capi stack; do
+    for test in capi sessions stack; do
         if cc -std=c11 -Wall -Wextra -Werror -pedantic -pthread -Iinclude "tests/$test.c" target/staticlib/libleskofar.a -o "target/$test" >"$log" 2>&1; then
             counted "tests/$test.c" "target/$test"
         else

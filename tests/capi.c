@@ -1,22 +1,10 @@
 /* The library as C sees it: the header is enough, NULL stands for an empty buffer, and each answer has its name. */
+#include "expect.h"
 #include "made_book.h"
 #include <leskofar.h>
-#include <stdio.h>
 #include <string.h>
 
 enum { FILL = 0xA5, BOOK_SIZE = 512, TEXT_SIZE = 64, TAG = 42 };
-
-static int passed;
-static int failed;
-
-static void expect(const char *name, int holds) {
-    if (holds) {
-        passed++;
-    } else {
-        failed++;
-        printf("FAILED: %s\n", name);
-    }
-}
 
 /* A book without records: every section is empty and begins behind the contents. */
 static size_t empty_book(uint8_t *book) {
@@ -38,15 +26,6 @@ static size_t small_book(uint8_t *book) {
         {NULL, 0, 0},  {terms, TERMS, 7}, {contexts, NODES, 3}, {lists, 2, 1},
     };
     return write_book(book, "xand%tag", sections);
-}
-
-static int all_are(const uint8_t *bytes, size_t len, uint8_t value) {
-    for (size_t i = 0; i < len; i++) {
-        if (bytes[i] != value) {
-            return 0;
-        }
-    }
-    return 1;
 }
 
 static void book_tests(void) {
@@ -165,6 +144,5 @@ int main(void) {
     print_tests();
     trace_tests();
     operator_tests();
-    printf("%d passed, %d failed\n", passed, failed);
-    return failed != 0;
+    return close_tests();
 }

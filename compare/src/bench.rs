@@ -1,20 +1,16 @@
-//! Speed as a ratio to the reference, both measured in this run. Nothing here
-//! fails: a time is no test.
+//! Speed as a ratio to the reference, both measured in this run.
 
+use crate::bench_sessions;
 use crate::library;
 use crate::made_books::full;
 use crate::made_terms::{flat, nests_of};
+use crate::timing::{fastest, percent, ratio};
 use leskofar_reference::book_test::SCRATCH_SIZE;
 use leskofar_reference::maker::Maker;
 use leskofar_reference::random::Random;
 use leskofar_reference::random_books::{random_book, Counts};
 use std::hint::black_box;
-use std::time::{Duration, Instant};
 
-/// Rounds, of which the fastest counts; the calls take turns.
-const ROUNDS: usize = 40;
-/// How long a round takes about.
-const ROUND: Duration = Duration::from_millis(5);
 const SEED: u64 = 1;
 const MIDDLE: usize = 30;
 /// Terms of the books that are printed, up to the most that a book can have.
@@ -27,44 +23,6 @@ const LONG: usize = 1000;
 const NESTS: [&str; 2] = ["bodies before a pattern", "only arguments"];
 /// More than any text here has.
 const ROOM: usize = 1 << 24;
-
-/// The time of one call, of so many.
-fn time_of(times: usize, call: &mut dyn FnMut()) -> Duration {
-    let start = Instant::now();
-    for _ in 0..times {
-        call();
-    }
-    start.elapsed() / times as u32
-}
-
-/// As many calls as fill a round.
-fn calls_in_a_round(call: &mut dyn FnMut()) -> usize {
-    let mut times = 1;
-    while time_of(times, call) * (times as u32) < ROUND {
-        times *= 2;
-    }
-    times
-}
-
-/// The fastest time of each call.
-fn fastest<const N: usize>(mut calls: [&mut dyn FnMut(); N]) -> [Duration; N] {
-    let times = calls.each_mut().map(|call| calls_in_a_round(*call));
-    let mut best = [Duration::MAX; N];
-    for _ in 0..ROUNDS {
-        for k in 0..N {
-            best[k] = best[k].min(time_of(times[k], calls[k]));
-        }
-    }
-    best
-}
-
-fn ratio(ours: Duration, theirs: Duration) -> f64 {
-    ours.as_secs_f64() / theirs.as_secs_f64()
-}
-
-fn percent(part: Duration, whole: Duration) -> f64 {
-    ratio(part, whole) * 100.0
-}
 
 fn bench_book_test() {
     let mut random = Random::new(SEED);
@@ -187,4 +145,5 @@ fn bench_printing() {
 pub fn run() {
     bench_book_test();
     bench_printing();
+    bench_sessions::run();
 }

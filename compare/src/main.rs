@@ -4,13 +4,29 @@
 #![deny(warnings)]
 
 mod bench;
+mod bench_sessions;
 mod book;
+mod buffers;
+mod calls;
+mod damaged_images;
 mod library;
+mod lists;
 mod made_books;
+mod made_rules;
+mod made_sessions;
 mod made_terms;
 mod printing;
+mod random_calls;
+mod seen;
+mod session_books;
+mod session_images;
+mod session_library;
+mod session_shapes;
+mod session_tours;
+mod sessions;
 mod shapes;
 mod tally;
+mod timing;
 
 use std::process::ExitCode;
 
@@ -22,6 +38,9 @@ fn main() -> ExitCode {
     let mut tally = tally::Tally::default();
     book::run(&mut tally);
     printing::run(&mut tally);
+    sessions::run(&mut tally);
+    session_images::run(&mut tally);
+    session_tours::run(&mut tally);
     if tally.close() {
         ExitCode::SUCCESS
     } else {

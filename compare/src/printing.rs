@@ -1,6 +1,7 @@
 //! Printing against the reference: the answer, every byte of the text, every
 //! byte behind it, and every scratch byte.
 
+use crate::buffers::Fenced;
 use crate::library::{self, Printed};
 use crate::made_books::{chain, full, good_books};
 use crate::made_terms::{borders, nests};
@@ -19,8 +20,6 @@ use leskofar_reference::sink::Sink;
 
 /// What a scratch holds before a call.
 const FILL: u8 = 0xA5;
-/// Bytes behind the text buffer that no call may touch.
-const BEHIND: usize = 16;
 const SEED: u64 = 0x7072_696E;
 /// Random terms, each printed in both layouts.
 const RANDOM_TERMS: usize = 100_000;
@@ -48,24 +47,19 @@ const FAR_CODES: [u32; 4] = [1 << 8 | 1, 1 << 16 | 2, 1 << 31 | 3, u32::MAX];
 /// The numbers of the refusals that a call on a book has.
 const ON_A_BOOK: [u32; 9] = [0, 1, 2, 3, 4, 5, 6, 7, 10];
 
-/// A buffer whose every byte differs from its neighbours.
-fn patterned(length: usize) -> Vec<u8> {
-    (0..length).map(|at| (at as u8) | 0x80).collect()
-}
-
 /// What a call leaves.
 #[derive(PartialEq)]
 struct Left {
     answer: Printed,
-    text: Vec<u8>,
+    text: Fenced,
     scratch: Vec<u8>,
 }
 
 /// Runs a call with a text buffer of `room` bytes and bytes behind it.
 fn left(room: usize, scratch: usize, call: impl FnOnce(&mut [u8], &mut [u8]) -> Printed) -> Left {
-    let mut text = patterned(room + BEHIND);
+    let mut text = Fenced::new(room);
     let mut scratch = vec![FILL; scratch];
-    let answer = call(&mut scratch, &mut text[..room]);
+    let answer = call(&mut scratch, text.room());
     Left {
         answer,
         text,

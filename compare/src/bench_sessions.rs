@@ -1,0 +1,203 @@
+//! Speed of a move and an ask as a ratio to the reference, both measured in
+//! this run: cost against path length, term count and literal count.
+
+use crate::library::book_test;
+use crate::made_terms::{flat, nests_of};
+use crate::session_library::{self as library, Answer, Buffers};
+use crate::timing::{fastest, percent, ratio};
+use leskofar_reference::book::{kind, BOOL, INT};
+use leskofar_reference::book_test::SCRATCH_SIZE;
+use leskofar_reference::fresh_image;
+use leskofar_reference::maker::Maker;
+use leskofar_reference::session as reference;
+use std::hint::black_box;
+
+/// Up to the deepest node.
+const DEPTHS: [usize; 4] = [8, 16, 32, 64];
+/// Up to the most terms that a book can have.
+const TERMS: [usize; 4] = [128, 256, 512, 1024];
+/// Up to nearly as many.
+const LITERALS: [usize; 4] = [125, 250, 500, 1000];
+/// The names of the arguments of flat terms.
+const LETTERS: usize = 9;
+/// The nest that costs a call for each term.
+const NEST: &str = "bodies before a pattern";
+/// More than any text here has.
+const ROOM: usize = 1 << 20;
+
+/// A move, or an ask where there is a goal.
+#[derive(Clone, Copy)]
+struct Travel {
+    from: u32,
+    to: u32,
+    goal: Option<u32>,
+}
+
+impl Travel {
+    fn on_library(self, book: &[u8], b: &mut Buffers) -> Answer {
+        match self.goal {
+            None => library::move_to(book, b, self.to),
+            Some(goal) => library::ask(book, b, self.to, goal),
+        }
+    }
+
+    fn on_reference(self, book: &[u8], b: &mut Buffers) -> Result<usize, u32> {
+        match self.goal {
+            None => reference::move_to(book, b.scratch, b.image, self.to, b.text),
+            Some(goal) => reference::ask(book, b.scratch, b.image, self.to, goal, b.text),
+        }
+    }
+}
+
+/// A call's own buffers, and the image that it begins with.
+struct Desk {
+    start: Vec<u8>,
+    image: Vec<u8>,
+    scratch: [u8; SCRATCH_SIZE],
+    text: Vec<u8>,
+}
+
+impl Desk {
+    /// At a node of a book.
+    fn new(book: &[u8], node: u32) -> Desk {
+        let mut desk = Desk {
+            start: fresh_image().to_vec(),
+            image: fresh_image().to_vec(),
+            scratch: [0; SCRATCH_SIZE],
+            text: vec![0; ROOM],
+        };
+        library::move_to(book, &mut desk.begin(), node);
+        desk.start = desk.image.clone();
+        desk
+    }
+
+    fn begin(&mut self) -> Buffers<'_> {
+        self.image.copy_from_slice(&self.start);
+        Buffers {
+            scratch: &mut self.scratch,
+            image: &mut self.image,
+            text: &mut self.text,
+            reason: &mut [],
+        }
+    }
+}
+
+/// Prints a row of the table.
+fn bench(name: &str, size: usize, m: &Maker, travel: Travel) {
+    let book = m.book();
+    let [mut first, mut second, mut third] = [(); 3].map(|()| Desk::new(&book, travel.from));
+    let answer = travel.on_library(&book, &mut first.begin());
+    assert_eq!(answer.refusal, 0, "{name}");
+    let stay = Travel {
+        to: travel.from,
+        goal: None,
+        ..travel
+    };
+    let mut scratch = [0; SCRATCH_SIZE];
+    let [ours, theirs, tested, book_tested] = fastest([
+        &mut || {
+            black_box(travel.on_library(black_box(&book), &mut first.begin()));
+        },
+        &mut || {
+            let _ = black_box(travel.on_reference(black_box(&book), &mut second.begin()));
+        },
+        // It writes nothing: the book test and the test of the session.
+        &mut || {
+            black_box(stay.on_library(black_box(&book), &mut third.begin()));
+        },
+        &mut || {
+            black_box(book_test(black_box(&book), &mut scratch));
+        },
+    ]);
+    println!(
+        "| {name} | {size} | {} | {} | {:.1} | {:.2} | {:.0} | {:.0} |",
+        m.terms.len(),
+        answer.text,
+        ours.as_secs_f64() * 1e6,
+        ratio(ours, theirs),
+        percent(book_tested, ours),
+        percent(tested.saturating_sub(book_tested), ours),
+    );
+}
+
+/// Nodes below each other, each with a constant of its own, and a sibling of
+/// the last. The last term is a goal.
+fn path(depth: usize) -> Maker {
+    let mut m = Maker::default();
+    for node in 0..=depth as u32 {
+        let v = m.constant(&format!("v{node}"), INT);
+        let args = [m.integer(0), m.id(v)];
+        let term = m.built_in("<", &args);
+        // The sibling hangs where the last one does.
+        let above = node.min(depth as u32 - 1);
+        m.context(above, term);
+    }
+    let args = [m.integer(1), m.id(0)];
+    m.built_in("<", &args);
+    m
+}
+
+/// A node whose term has so many literals, each of another name.
+fn literals(count: usize) -> Maker {
+    let types = [BOOL, INT];
+    let mut m = Maker::default();
+    let names: Vec<u32> = (0..count.div_ceil(types.len()))
+        .map(|name| m.name(&format!("literal{name:04}")))
+        .collect();
+    let args: Vec<u32> = names
+        .iter()
+        .flat_map(|name| types.map(|typ| [*name, typ]))
+        .take(count)
+        .map(|literal| m.term(kind::CUSTOM_LITERAL, literal))
+        .collect();
+    m.built_in("and", &args);
+    m
+}
+
+/// To a node with the last term, and that term asked.
+fn bench_last_term(name: &str, size: usize, mut m: Maker) {
+    let last = m.terms.len() as u32 - 1;
+    let node = m.context(0, last);
+    for (call, from, to, goal) in [
+        ("move", 0, node, None),
+        ("ask", 0, 0, Some(last)),
+        ("move back", node, 0, None),
+    ] {
+        let travel = Travel { from, to, goal };
+        bench(&format!("{call}, {name}"), size, &m, travel);
+    }
+}
+
+pub fn run() {
+    println!();
+    println!(
+        "| call | size | terms | bytes of text | µs | ratio to reference | book test, % \
+         | test of the session, % |"
+    );
+    println!("|---|---|---|---|---|---|---|---|");
+    for depth in DEPTHS {
+        let m = path(depth);
+        let [node, sibling] = [depth as u32, depth as u32 + 1];
+        let goal = m.terms.len() as u32 - 1;
+        for (name, from, to, goal) in [
+            ("move, root to depth", 0, node, None),
+            ("move, depth to root", node, 0, None),
+            ("move, depth to sibling", node, sibling, None),
+            ("ask, at depth", node, node, Some(goal)),
+        ] {
+            bench(name, depth, &m, Travel { from, to, goal });
+        }
+    }
+    for terms in TERMS {
+        bench_last_term("flat terms", terms, flat(terms - 1, LETTERS));
+    }
+    for terms in TERMS {
+        let nests = nests_of(terms).into_iter();
+        for (_, m) in nests.filter(|(name, _)| *name == NEST) {
+            bench_last_term("nested terms", terms, m);
+        }
+    }
+    for count in LITERALS {
+        bench_last_term("literals", count, literals(count));
+    }
+}

@@ -1,0 +1,242 @@
+//! Lists of session calls on one book. What is present and owed is taken from
+//! the accepted calls alone, and a reader of their text holds the live levels
+//! against what the book alone gives. In between come calls on foreign
+//! images, damaged books and short scratches, which leave the list alone.
+
+use crate::calls::{Call, Given, Left, Measure};
+use crate::damaged_images::foreign;
+use crate::random_calls::random_call;
+use crate::seen::Seen;
+use crate::session_library::{self as library, PROVED, UNPROVED};
+use crate::session_shapes::{cyclic, Travelled};
+use leskofar_reference::book_test::{check, SCRATCH_SIZE};
+use leskofar_reference::commands::LINE_END;
+use leskofar_reference::damage::damaged;
+use leskofar_reference::image::{Owed, Session, IMAGE_SIZE};
+use leskofar_reference::maker::Maker;
+use leskofar_reference::program::{Program, ROOT};
+use leskofar_reference::random::{Random, AT_TIMES, HARDLY_EVER, OFTEN, RARELY};
+use leskofar_reference::refusal::{NO_MODEL_OWED, NO_REPLY_OWED, SESSION, SOMETHING_OWED};
+use leskofar_reference::stack::{expected_levels, Level, Reader};
+use std::collections::BTreeSet;
+
+/// How much longer than its text a buffer is.
+const LONGER: [usize; 4] = [1, 2, 9, 4096];
+const SHORT_SCRATCHES: [usize; 3] = [0, 1, SCRATCH_SIZE - 1];
+
+pub struct List<'l, 'b> {
+    maker: &'l Maker,
+    book: &'b [u8],
+    program: &'l Program<'b>,
+    cyclic: BTreeSet<usize>,
+    /// As the library left it.
+    image: Vec<u8>,
+    reader: Reader,
+    node: u32,
+    goal: Option<u32>,
+    owed: Owed,
+}
+
+impl<'l, 'b> List<'l, 'b> {
+    /// A list without calls; `program` is what the maker's `book` holds.
+    pub fn new(maker: &'l Maker, book: &'b [u8], program: &'l Program<'b>) -> List<'l, 'b> {
+        let mut image = vec![0; IMAGE_SIZE];
+        library::fresh(&mut image);
+        List {
+            maker,
+            book,
+            program,
+            cyclic: cyclic(program),
+            image,
+            reader: Reader::default(),
+            node: ROOT as u32,
+            goal: None,
+            owed: Owed::Nothing,
+        }
+    }
+
+    pub fn image(&self) -> &[u8] {
+        &self.image
+    }
+
+    /// A random call, at times after one that is no part of the list.
+    pub fn random_step(
+        &mut self,
+        random: &mut Random,
+        other: &[u8],
+        measure: &mut Measure,
+        seen: &mut Seen,
+    ) -> Result<(), String> {
+        if random.one_in(AT_TIMES) {
+            self.foreign_call(random, other, measure, seen)?;
+        }
+        let call = random_call(random, self.program, self.owed);
+        let (text, reason) = measure.lengths(&call, self.book, &self.image);
+        let [text, reason] = [text, reason].map(|length| room(random, length));
+        self.step(&call, text, reason, seen).map(|_| ())
+    }
+
+    /// A call of the list.
+    pub fn step(
+        &mut self,
+        call: &Call,
+        text: usize,
+        reason: usize,
+        seen: &mut Seen,
+    ) -> Result<Left, String> {
+        let left = call.compare(&Given {
+            book: self.book,
+            image: &self.image,
+            scratch: SCRATCH_SIZE,
+            text,
+            reason,
+        })?;
+        seen.add(call, &left);
+        if left.answer.refusal == SESSION || !self.in_turn(call, &left) {
+            let answer = left.answer;
+            return Err(format!("{answer:?} on its own image, of {call:?}"));
+        }
+        if left.accepted() {
+            self.accept(call, &left, seen)
+                .map_err(|what| format!("{what} after {call:?}, of {:?}", self.book))?;
+        }
+        self.image = left.image().to_vec();
+        Ok(left)
+    }
+
+    /// What is owed by the accepted calls decides which call is accepted, and
+    /// that 21 to 23 are for the others.
+    fn in_turn(&self, call: &Call, left: &Left) -> bool {
+        let its_turn = match call {
+            Call::Move { .. } | Call::Ask { .. } => Owed::Nothing,
+            Call::Reply { .. } => Owed::Reply,
+            Call::Model { .. } => Owed::Model,
+        };
+        let for_its_turn = [SOMETHING_OWED, NO_REPLY_OWED, NO_MODEL_OWED];
+        if self.owed == its_turn {
+            !for_its_turn.contains(&left.answer.refusal)
+        } else {
+            !left.accepted()
+        }
+    }
+
+    fn accept(&mut self, call: &Call, left: &Left, seen: &mut Seen) -> Result<(), String> {
+        let from = self.node;
+        match call {
+            Call::Move { node } => self.node = *node,
+            Call::Ask { node, goal } => {
+                self.node = *node;
+                self.goal = Some(*goal);
+                self.owed = Owed::Reply;
+            }
+            Call::Reply { .. } if ![PROVED, UNPROVED].contains(&left.answer.result) => {
+                self.owed = Owed::Model;
+            }
+            Call::Reply { .. } | Call::Model { .. } => {
+                self.goal = None;
+                self.owed = Owed::Nothing;
+            }
+        }
+        let levels = self.read(left.text())?;
+        seen.levels += 1;
+        if let Call::Move { .. } | Call::Ask { .. } = call {
+            let travelled = Travelled {
+                program: self.program,
+                cyclic: &self.cyclic,
+                from,
+                to: self.node,
+                goal: self.goal,
+                image: left.image(),
+                levels: &levels,
+            };
+            travelled.visit(&mut |shape| seen.shapes.add(shape));
+        }
+        Ok(())
+    }
+
+    /// Reads a text; what is then live is what the book alone gives for the
+    /// present node and question, level by level and in its order.
+    fn read(&mut self, text: &[u8]) -> Result<Vec<Level>, String> {
+        self.reader
+            .read(text)
+            .map_err(|lost| format!("the reader is lost, {lost:?},"))?;
+        let levels = expected_levels(self.book, self.node, self.goal)
+            .ok_or("the book gives no levels for the node and goal")?;
+        if self.reader.levels() == levels {
+            Ok(levels)
+        } else {
+            let [live, expected] = [self.reader.levels(), &levels].map(readable);
+            Err(format!("live {live}, expected {expected},"))
+        }
+    }
+
+    /// A call on an image, book or scratch that is not the list's.
+    fn foreign_call(
+        &self,
+        random: &mut Random,
+        other: &[u8],
+        measure: &mut Measure,
+        seen: &mut Seen,
+    ) -> Result<(), String> {
+        let mut image = self.image.clone();
+        if random.one_in(OFTEN) {
+            let (manner, changed) = foreign(random, &self.image, other);
+            seen.images.add(manner);
+            image = changed;
+        }
+        let mut book = self.book.to_vec();
+        if random.one_in(OFTEN) {
+            book = damaged(random, self.maker);
+        }
+        let scratch = if random.one_in(RARELY) {
+            random.pick(&SHORT_SCRATCHES)
+        } else {
+            SCRATCH_SIZE + random.pick(&LONGER)
+        };
+        let owed = Session::read(&image).map_or(Owed::Nothing, |session| session.owed);
+        let call = random_call(random, self.program, owed);
+        let (text, reason) = measure.lengths(&call, &book, &image);
+        let [text, reason] = [text, reason].map(|length| room(random, length));
+        let left = call.compare(&Given {
+            book: &book,
+            image: &image,
+            scratch,
+            text,
+            reason,
+        })?;
+        seen.add(&call, &left);
+        Ok(())
+    }
+}
+
+/// Runs a list of calls on a book.
+pub fn on_book<T>(
+    m: &Maker,
+    run: impl FnOnce(&mut List) -> Result<T, String>,
+) -> Result<T, String> {
+    let book = m.book();
+    let program = check(&book).map_err(|refusal| format!("refused {refusal}"))?;
+    run(&mut List::new(m, &book, &program))
+}
+
+/// Levels as their texts, which are ASCII.
+fn readable(levels: &[Level]) -> String {
+    let texts = levels.iter().map(|level| level.join(&LINE_END));
+    let texts: Vec<String> = texts
+        .map(|text| String::from_utf8_lossy(&text).into_owned())
+        .collect();
+    format!("{texts:?}")
+}
+
+/// A buffer for a text: just long enough, longer, too short by one, or none.
+fn room(random: &mut Random, length: usize) -> usize {
+    if random.one_in(RARELY) {
+        length.saturating_sub(1)
+    } else if random.one_in(HARDLY_EVER) {
+        0
+    } else if random.one_in(OFTEN) {
+        length
+    } else {
+        length + random.pick(&LONGER)
+    }
+}
