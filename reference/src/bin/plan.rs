@@ -1,6 +1,7 @@
 //! The tool for readable plans: a plan's text to its book, and back.
 #![deny(warnings)]
 
+use leskofar_reference::book_test::check;
 use leskofar_reference::plan::{read, write, Goal};
 use leskofar_reference::refusal::meaning;
 use std::env::args_os;
@@ -123,17 +124,21 @@ fn run(call: &Call) -> Result<(), Failure> {
         status: BAD_INPUT,
         message: format!("{}: {why}\n", call.file.display()),
     };
+    let refused = |number| bad_input(format!("refused {number}: {}", meaning(number)));
     match call.command {
         Command::Book => {
             let plan = read(&bytes).map_err(|error| bad_input(error.to_string()))?;
-            put(call.out.as_deref(), &plan.maker.book())?;
+            let book = plan.maker.book();
+            // A plan that is read makes a good book; that is made sure of
+            // before anybody relies on it.
+            check(&book).map_err(refused)?;
+            put(call.out.as_deref(), &book)?;
             if call.goals {
                 put_goals(&plan.goals, call.out.is_some())?;
             }
             Ok(())
         }
         Command::Text => {
-            let refused = |number| bad_input(format!("refused {number}: {}", meaning(number)));
             let text = write(&bytes).map_err(refused)?;
             put(call.out.as_deref(), text.as_bytes())
         }

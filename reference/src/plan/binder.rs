@@ -8,7 +8,7 @@ use crate::plan::error::{refuse, Position, Result};
 use crate::plan::packing::Packer;
 use crate::plan::scope::{Scope, Symbol};
 use crate::plan::syntax::{Item, ItemKind, Name, Place, Syntax, Term, TermKind};
-use crate::plan::words::symbol;
+use crate::plan::words::solver_name;
 use crate::plan::{Goal, Plan};
 use std::collections::HashMap;
 
@@ -137,17 +137,15 @@ impl<'p> Binder<'p> {
         }
     }
 
-    /// The name that the solver sees: the given one, else the plan's own.
+    /// The number of the name that the solver sees.
     fn solver_name(&mut self, name: &Name, given: &Option<String>) -> u32 {
-        match given {
-            Some(given) => self.packer.name(given),
-            None => self.packer.name(&symbol(&name.text)),
-        }
+        let seen = solver_name(&name.text, given.as_deref());
+        self.packer.name(&seen)
     }
 
     fn named_term(&mut self, name: &'p Name, term: Place) -> Result<()> {
         if let TermKind::Name(other) = &self.terms[term].kind {
-            if let Symbol::Term(_) = self.scope.symbol(other)? {
+            if let Ok(Symbol::Term(_)) = self.scope.symbol(other) {
                 let found = format!("the name {} of one", other.quoted());
                 return refuse(other.at, "a term of its own", found);
             }

@@ -4,10 +4,10 @@ use crate::book::{BOOL, FIRST_USER_TYPE, INT};
 use crate::plan::error::{refuse, Position, Result};
 use crate::plan::syntax::{ItemKind, Name, Syntax, Term};
 use crate::plan::words::{
-    is_operator, is_reserved_node, is_reserved_symbol, is_reserved_type, BOOL_TYPE, INT_TYPE,
-    ROOT_NODE,
+    is_operator, is_reserved_node, is_reserved_symbol, is_reserved_type, solver_name, BOOL_TYPE,
+    INT_TYPE, LITERAL_SEPARATOR, ROOT_NODE,
 };
-use crate::program::ROOT;
+use crate::program::{SType, ROOT};
 use std::collections::HashMap;
 
 /// What a name in a term stands for.
@@ -41,7 +41,7 @@ impl<'p, T: Copy> Names<'p, T> {
             refuse(name.at, "a new name", found)
         };
         if (self.is_reserved)(&name.text) {
-            return refused("a word of the form".into());
+            return refused("a reserved word".into());
         }
         if let Some((at, _)) = self.declared.get(name.text.as_str()) {
             return refused(format!("declared at {at}"));
@@ -67,6 +67,8 @@ fn unknown<T>(name: &Name, sought: &str) -> Result<T> {
 /// uses them comes later in the book.
 pub struct Scope<'p> {
     types: Names<'p, u32>,
+    /// By the name that the solver sees; the first of those that share one.
+    types_of_literals: HashMap<String, u32>,
     /// Of each constant; a type may be declared behind it.
     constant_types: Vec<&'p Name>,
     symbols: Names<'p, Symbol>,
@@ -81,6 +83,10 @@ impl<'p> Scope<'p> {
         let none = |_: &str| false;
         let mut scope = Scope {
             types: Names::new("a type", is_reserved_type),
+            types_of_literals: HashMap::from([
+                (SType::BOOL_IN_LITERAL.into(), BOOL),
+                (SType::INT_IN_LITERAL.into(), INT),
+            ]),
             constant_types: Vec::new(),
             symbols: Names::new("a constant, function or term above", is_reserved_symbol),
             axioms: Names::new("an axiom", none),
@@ -96,7 +102,12 @@ impl<'p> Scope<'p> {
             patterns += terms.iter().map(Term::patterns_in_place).sum::<usize>() as u32;
             terms_start = item.terms_end;
             match &item.kind {
-                ItemKind::Type { name, .. } => scope.types.declare(name, next(&mut types))?,
+                ItemKind::Type { name, given } => {
+                    let number = next(&mut types);
+                    scope.types.declare(name, number)?;
+                    let seen = solver_name(&name.text, given.as_deref());
+                    scope.types_of_literals.entry(seen).or_insert(number);
+                }
                 ItemKind::Constant { name, typ, .. } => {
                     let number = scope.constant_types.len() as u32;
                     scope.symbols.declare(name, Symbol::Constant(number))?;
@@ -133,6 +144,21 @@ impl<'p> Scope<'p> {
             return Ok(Symbol::Operator);
         }
         self.symbols.find(name)
+    }
+
+    /// A literal as it is printed: `|red:Shade|`, if nothing else is called
+    /// so. Of several colons the last that stands before a type counts.
+    pub fn printed_literal<'n>(&self, name: &'n Name) -> Option<(&'n str, u32)> {
+        if self.symbol(name).is_ok() {
+            return None;
+        }
+        let colons = name.text.rmatch_indices(LITERAL_SEPARATOR);
+        let mut literals = colons.filter_map(|(colon, _)| {
+            let typ = &name.text[colon + LITERAL_SEPARATOR.len()..];
+            let typ = self.types_of_literals.get(typ)?;
+            Some((&name.text[..colon], *typ))
+        });
+        literals.next()
     }
 
     pub fn constant(&self, name: &Name) -> Result<u32> {

@@ -24,14 +24,10 @@ impl Binder<'_> {
             TermKind::Boolean(b) => Ok(self.packer.maker.boolean(*b)),
             TermKind::Integer(x) => Ok(self.packer.maker.integer(*x)),
             TermKind::Literal { s, typ } => {
-                let fields = [self.packer.name(s), self.scope.typ(typ)?];
-                Ok(self.packer.maker.term(kind::CUSTOM_LITERAL, fields))
+                let typ = self.scope.typ(typ)?;
+                Ok(self.literal(s, typ))
             }
-            TermKind::Name(name) => match self.scope.symbol(name)? {
-                Symbol::Term(number) => Ok(number),
-                Symbol::Constant(constant) => Ok(self.packer.maker.id(constant)),
-                Symbol::Function(_) | Symbol::Operator => self.application(name, &[]),
-            },
+            TermKind::Name(name) => self.named(name),
             TermKind::Application { head, args } => self.application(head, args),
             TermKind::BuiltIn { operator, args } => self.built_in(operator, args),
             TermKind::IfThenElse([guard, thn, els]) => {
@@ -63,6 +59,22 @@ impl Binder<'_> {
                 let fields = [univ, vv, vv_count, patterns, pattern_count, body];
                 Ok(self.packer.maker.term(kind::QUANTIFIER, fields))
             }
+        }
+    }
+
+    fn literal(&mut self, s: &str, typ: u32) -> u32 {
+        let fields = [self.packer.name(s), typ];
+        self.packer.maker.term(kind::CUSTOM_LITERAL, fields)
+    }
+
+    fn named(&mut self, name: &Name) -> Result<u32> {
+        if let Some((s, typ)) = self.scope.printed_literal(name) {
+            return Ok(self.literal(s, typ));
+        }
+        match self.scope.symbol(name)? {
+            Symbol::Term(number) => Ok(number),
+            Symbol::Constant(constant) => Ok(self.packer.maker.id(constant)),
+            Symbol::Function(_) | Symbol::Operator => self.application(name, &[]),
         }
     }
 

@@ -38,8 +38,58 @@ pub const LITERAL: &str = "literal";
 pub const BUILT_IN: &str = "builtin";
 pub const TAG: &str = "%tag";
 
+/// Between a literal and its type where it is printed.
+pub const LITERAL_SEPARATOR: &str = ":";
+
 const TERM_WORDS: [&str; 10] = [
     TRUE, FALSE, ITE, LET, FORALL, EXISTS, ANNOTATED, LITERAL, BUILT_IN, TAG,
+];
+/// SMT-LIB 2.6's reserved words, the names of its commands among them. A
+/// solver takes none of them as a name, z3 not even between bars.
+const SMT_LIB_WORDS: [&str; 43] = [
+    "!",
+    "_",
+    "as",
+    "BINARY",
+    "DECIMAL",
+    "exists",
+    "HEXADECIMAL",
+    "forall",
+    "let",
+    "match",
+    "NUMERAL",
+    "par",
+    "STRING",
+    "assert",
+    "check-sat",
+    "check-sat-assuming",
+    "declare-const",
+    "declare-datatype",
+    "declare-datatypes",
+    "declare-fun",
+    "declare-sort",
+    "define-fun",
+    "define-fun-rec",
+    "define-funs-rec",
+    "define-sort",
+    "echo",
+    "exit",
+    "get-assertions",
+    "get-assignment",
+    "get-info",
+    "get-model",
+    "get-option",
+    "get-proof",
+    "get-unsat-assumptions",
+    "get-unsat-core",
+    "get-value",
+    "pop",
+    "push",
+    "reset",
+    "reset-assertions",
+    "set-info",
+    "set-logic",
+    "set-option",
 ];
 /// Operators of SMT-LIB's core and integers that have no code in a book.
 const MORE_OPERATORS: [&str; 5] = ["distinct", "xor", ">", ">=", "abs"];
@@ -58,11 +108,11 @@ pub fn is_operator(text: &str) -> bool {
 
 /// What no constant, function or term can be called in a plan.
 pub fn is_reserved_symbol(text: &str) -> bool {
-    TERM_WORDS.contains(&text) || is_operator(text)
+    TERM_WORDS.contains(&text) || is_operator(text) || SMT_LIB_WORDS.contains(&text)
 }
 
 pub fn is_reserved_type(text: &str) -> bool {
-    [BOOL_TYPE, INT_TYPE].contains(&text)
+    [BOOL_TYPE, INT_TYPE].contains(&text) || SMT_LIB_WORDS.contains(&text)
 }
 
 pub fn is_reserved_node(text: &str) -> bool {
@@ -100,6 +150,14 @@ pub fn symbol(text: &str) -> String {
         text.to_string()
     } else {
         format!("{BAR}{text}{BAR}")
+    }
+}
+
+/// The name that the solver sees: the given one, else the plan's own.
+pub fn solver_name(text: &str, given: Option<&str>) -> String {
+    match given {
+        Some(given) => given.into(),
+        None => symbol(text),
     }
 }
 

@@ -44,6 +44,28 @@ fn symbols_and_their_names() {
     assert_holds(text, &m);
 }
 
+/// A literal may stand as it is printed; a name that is declared comes first.
+#[test]
+fn printed_literals() {
+    let text = "
+        (type S) (type |b:S|) (type T :name \"b:S\") (constant |c:S| Int)
+        (term a |red:S|) (term b |a:b:S|) (term c |:int|) (term d |a b:bool|) (term e |c:S|)
+        (term f (= |red:S| |x:b:S|))";
+    let mut m = Maker::default();
+    let s = m.user_type("S");
+    m.user_type("|b:S|");
+    m.user_type("b:S");
+    let constant = m.constant("|c:S|", INT);
+    m.literal("red", s);
+    m.literal("a:b", s);
+    m.literal("", INT);
+    m.literal("a b", BOOL);
+    m.id(constant);
+    let args = [m.literal("red", s), m.literal("x:b", s)];
+    m.built_in("=", &args);
+    assert_holds(text, &m);
+}
+
 #[test]
 fn terms() {
     let text = "

@@ -65,24 +65,9 @@ fn printed(book: &[u8], term: usize, newlines: bool, indent: u64) -> String {
     String::from_utf8_lossy(&text[..length.expect("accepted")]).into_owned()
 }
 
-/// A literal's print, `|s:type|`, says what it is only by convention; and a
-/// print has a number for `%tag`.
-fn with_literals(print: &str) -> String {
-    let mut text = String::new();
-    for (place, part) in print.split('|').enumerate() {
-        if place % 2 == 0 {
-            text += part;
-            continue;
-        }
-        let (s, typ) = part.rsplit_once(':').expect("a literal");
-        let typ = match typ {
-            "bool" => "Bool",
-            "int" => "Int",
-            user => user,
-        };
-        text += &format!("(literal \"{s}\" {typ})");
-    }
-    text.replace(&TAG_NUMBER.to_string(), "%tag")
+/// A print has a number for `%tag`.
+fn with_tags(print: &str) -> String {
+    print.replace(&TAG_NUMBER.to_string(), "%tag")
 }
 
 /// A print leaves out quantifiers without variables, and a tag's type.
@@ -168,7 +153,7 @@ fn assert_prints_read_back(book: &[u8]) {
     let items = declarations(&program);
     for term in 0..program.terms.len() {
         for (newlines, indent) in LAYOUTS {
-            let print = with_literals(&printed(book, term, newlines, indent));
+            let print = with_tags(&printed(book, term, newlines, indent));
             let plan = read(format!("{items}\n(goal g root {print})").as_bytes());
             let plan = plan.unwrap_or_else(|error| panic!("{error} in {print}"));
             let again = plan.maker.book();
