@@ -48,6 +48,79 @@ enum leskofar_refusal {
  */
 uint32_t leskofar_book_test(const uint8_t *book, size_t book_len, uint8_t *scratch, size_t scratch_len);
 
+/* A session's image has this many bytes (docs/SESSION.md). */
+#define LESKOFAR_IMAGE 1616
+
+/* What a printing call answers. */
+typedef struct {
+    uint32_t refusal; /* 0, or why the call is refused */
+    uint64_t length;  /* of the text, which stands at the buffer's begin; 0 where the call is refused */
+} leskofar_printed;
+
+/*
+ * Prints a term: refusals 1 to 7 and 10. `tag` is the number that stands for the literal %tag. With `newlines` other than 0 each part
+ * of a row has a line of its own, two spaces deeper than the row; the first row stands at `indent` spaces. Else it is one line, and the
+ * indent is not looked at. The text has no line end behind it.
+ */
+leskofar_printed leskofar_print(const uint8_t *book, size_t book_len, uint8_t *scratch, size_t scratch_len, uint32_t term, uint64_t tag,
+                                uint32_t newlines, uint64_t indent, uint8_t *text, size_t text_len);
+
+/* Prints the traces on the way from the root to a node, a line for each: refusals 1 to 7 and 10. Node 0 is the root and has none. */
+leskofar_printed leskofar_trace(const uint8_t *book, size_t book_len, uint8_t *scratch, size_t scratch_len, uint32_t node, uint8_t *text,
+                                size_t text_len);
+
+/* Writes the name of the operator with a code from 1 to 14: refusals 11, then 10. */
+leskofar_printed leskofar_operator(uint32_t code, uint8_t *text, size_t text_len);
+
+/* What a session's call leads to. */
+enum leskofar_result {
+    LESKOFAR_WRITTEN = 0, /* a text to be sent; after ask a reply is owed, after reply a model */
+    LESKOFAR_PROVED = 1,  /* the question is closed: its goal follows at its node */
+    LESKOFAR_UNPROVED = 2 /* the question is closed, and the reason says why nothing is proved */
+};
+
+/* What a session's call answers. */
+typedef struct {
+    uint32_t refusal; /* 0, or why the call is refused; then the rest is 0 */
+    uint32_t result;  /* one of enum leskofar_result */
+    uint64_t text;    /* the length of the text, which stands at its buffer's begin: send it to the solver as it is */
+    uint64_t reason;  /* the length of the reason, for LESKOFAR_UNPROVED; else 0, and the reason's buffer is not touched */
+} leskofar_answer;
+
+/*
+ * Makes an image that of a fresh session, the one to begin with and to begin anew with whenever a new solver is started: 0, or 20 where
+ * `image_len` is not LESKOFAR_IMAGE; then nothing is touched.
+ */
+uint32_t leskofar_fresh(uint8_t *image, size_t image_len);
+
+/* Brings the session to a node: refusals 1 to 7, 20, 21, 9 and 10. The text may be empty. */
+leskofar_answer leskofar_move(const uint8_t *book, size_t book_len, uint8_t *scratch, size_t scratch_len, uint8_t *image,
+                              size_t image_len, uint32_t node, uint8_t *text, size_t text_len);
+
+/*
+ * Brings the session to a node and asks there whether a term, the goal, follows: refusals 1 to 7, 20, 21, 9 and 10. The text ends in
+ * (check-sat). Afterwards a reply is owed, and move and ask are refused until the question is closed.
+ */
+leskofar_answer leskofar_ask(const uint8_t *book, size_t book_len, uint8_t *scratch, size_t scratch_len, uint8_t *image,
+                             size_t image_len, uint32_t node, uint32_t goal, uint8_t *text, size_t text_len);
+
+/*
+ * Takes what came of the check: refusals 1 to 6, 20, 22 and 10. `ok` is 0 where the check failed, and `reply` then is its error text:
+ * unproved, with that text as the reason. Else `reply` is the solver's reply: on unsat, these five bytes, the goal is proved; on
+ * any other the text is (get-model), and a model is owed.
+ */
+leskofar_answer leskofar_reply(const uint8_t *book, size_t book_len, uint8_t *scratch, size_t scratch_len, uint8_t *image,
+                               size_t image_len, uint32_t ok, const uint8_t *reply, size_t reply_len, uint8_t *text, size_t text_len,
+                               uint8_t *reason, size_t reason_len);
+
+/*
+ * Takes the same reply once more and the model, where `has_model` is not 0: refusals 1 to 6, 20, 23, 8 and 10. Unproved; the reason is
+ * the reply and, where a model came, a line end and the model.
+ */
+leskofar_answer leskofar_model(const uint8_t *book, size_t book_len, uint8_t *scratch, size_t scratch_len, uint8_t *image,
+                               size_t image_len, const uint8_t *reply, size_t reply_len, uint32_t has_model, const uint8_t *model,
+                               size_t model_len, uint8_t *text, size_t text_len, uint8_t *reason, size_t reason_len);
+
 #ifdef __cplusplus
 }
 #endif

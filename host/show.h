@@ -1,0 +1,34 @@
+/* What goes to standard output. Colours and the count of questions only go to a terminal. */
+#ifndef SHOW_H
+#define SHOW_H
+
+#include <stdbool.h>
+#include <stddef.h>
+#include <stdint.h>
+
+struct show {
+    bool is_quiet;
+    bool is_terminal;
+    bool has_colours;
+};
+
+enum colour { GREEN, YELLOW, RED };
+
+struct show show_begin(bool is_quiet);
+
+/* How many questions are done, on a line that the next output takes away. */
+void show_count(const struct show *show, size_t done, size_t of);
+
+/* A question's line: what it is, and what came of it. */
+void show_result(const struct show *show, uint32_t node, uint32_t term, enum colour colour, const char *result);
+
+/* A text with its title, indented. On a terminal, bytes that would steer it are shown as `?`. */
+void show_block(const struct show *show, const char *title, const uint8_t *text, size_t length);
+
+/* The text alone. */
+void show_text(const uint8_t *text, size_t length);
+
+/* False where something could not be written, after a complaint. */
+bool show_end(void);
+
+#endif
