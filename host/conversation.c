@@ -37,15 +37,24 @@ static enum turn fail(struct conversation *talk, enum fault fault) {
     return HAS_FAILED;
 }
 
+/* The solver has closed its input: nothing more can be asked of it. */
+static void input_closed(struct conversation *talk, int64_t *deadline) {
+    process_close(&talk->process.in);
+    int64_t last_words = now() + LAST_WORDS;
+    *deadline = last_words < *deadline ? last_words : *deadline;
+}
+
 /* The solver takes what fits its pipe. */
-static enum turn write_some(struct conversation *talk, int64_t *deadline) {
+static enum turn write_some(struct conversation *talk, short ready, int64_t *deadline) {
+    if ((ready & POLLOUT) == 0) {
+        input_closed(talk, deadline);
+        return GOES_ON;
+    }
     ssize_t written = write(talk->process.in, talk->to_send.at, talk->to_send.length);
     if (written >= 0) {
         bytes_drop(&talk->to_send, (size_t)written);
     } else if (errno == EPIPE) {
-        process_close(&talk->process.in);
-        int64_t last_words = now() + LAST_WORDS;
-        *deadline = last_words < *deadline ? last_words : *deadline;
+        input_closed(talk, deadline);
     } else if (errno != EAGAIN && errno != EINTR) {
         return fail(talk, FAULT_SYSTEM);
     }
@@ -65,7 +74,7 @@ static bool read_some(int pipe_end, struct bytes *bytes, bool *has_memory) {
 static enum turn read_answer(struct conversation *talk) {
     bool has_memory = true;
     if (!read_some(talk->process.out, &talk->received, &has_memory)) {
-        return fail(talk, talk->process.in < 0 ? FAULT_INPUT_CLOSED : FAULT_ENDED);
+        return fail(talk, FAULT_ENDED);
     }
     if (!has_memory) {
         return fail(talk, FAULT_MEMORY);
@@ -91,7 +100,7 @@ static enum turn turn(struct conversation *talk, int64_t *deadline) {
     if (left <= 0) {
         return fail(talk, talk->process.in < 0 ? FAULT_INPUT_CLOSED : FAULT_TIMEOUT);
     }
-    struct pollfd ready[] = {{talk->to_send.length > 0 ? talk->process.in : -1, POLLOUT, 0},
+    struct pollfd ready[] = {{talk->process.in, talk->to_send.length > 0 ? POLLOUT : 0, 0},
                              {talk->process.out, POLLIN, 0},
                              {talk->process.err, POLLIN, 0}};
     if (poll(ready, sizeof ready / sizeof ready[0], left < INT_MAX ? (int)left : INT_MAX) < 0) {
@@ -102,7 +111,7 @@ static enum turn turn(struct conversation *talk, int64_t *deadline) {
         result = read_errors(talk);
     }
     if (result == GOES_ON && ready[0].revents != 0) {
-        result = write_some(talk, deadline);
+        result = write_some(talk, ready[0].revents, deadline);
     }
     if (result == GOES_ON && ready[1].revents != 0) {
         result = read_answer(talk);

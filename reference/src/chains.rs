@@ -22,6 +22,23 @@ pub struct ChainPlan {
     pub questions: Vec<Question>,
 }
 
+impl ChainPlan {
+    /// Whether the same goal must be proved at one node and not at a sibling
+    /// of it.
+    pub fn siblings_differ(&self) -> bool {
+        let place = |question: &Question| {
+            let record = (question.node as usize).checked_sub(1)?;
+            let [parent, ..] = self.maker.contexts[record];
+            Some((parent, question.goal))
+        };
+        let differ = |a: &Question, b: &Question| {
+            place(a).is_some() && place(a) == place(b) && a.must_be_proved != b.must_be_proved
+        };
+        let mut questions = self.questions.iter();
+        questions.any(|a| self.questions.iter().any(|b| differ(a, b)))
+    }
+}
+
 /// A goal asked at a node.
 #[derive(Clone, Copy, Debug, PartialEq, Eq)]
 pub struct Question {

@@ -49,17 +49,7 @@ fn the_plans_have_everything() {
         let program = check(&book).expect("the book passes");
         longest = longest.max(program.constants.len());
         by_axiom += usize::from(!program.axioms.is_empty());
-        // The same goal at two nodes of one parent, true at one only.
-        let differ = plan.questions.iter().any(|a| {
-            plan.questions.iter().any(|b| {
-                let parent = |node: u32| program.node(node as usize).map(|node| node.parent);
-                a.goal == b.goal
-                    && a.must_be_proved != b.must_be_proved
-                    && parent(a.node).is_some()
-                    && parent(a.node) == parent(b.node)
-            })
-        });
-        siblings += usize::from(differ);
+        siblings += usize::from(plan.siblings_differ());
         let is_open = |node: &usize| {
             let trace = program.node(*node).and_then(|node| node.trace_string);
             trace.is_some_and(|trace| trace.ends_with(b"any box"))
