@@ -4,8 +4,10 @@
 #   HOST      the command to test; may have words before it, such as valgrind's
 #   TOOLS     where the reference's tools `plan` and `chains` are
 #   PLANS     how many made plans z3 is asked, and OTHER_PLANS how many cvc5
-#   PARTS    which of the groups in tests/host/
+#   PARTS     which of the groups in tests/host/
 #   PATIENCE  how many seconds a silent solver gets
+#   STEP      how many bytes lie between two at which a solver dies
+#   LARGE     how many bytes the large model has
 #
 # Ends with a line 'N passed, M failed'.
 set -u
@@ -15,10 +17,10 @@ TOOLS=${TOOLS:-reference/target/release}
 PLANS=${PLANS:-500}
 OTHER_PLANS=${OTHER_PLANS:-50}
 PATIENCE=${PATIENCE:-1}
+STEP=${STEP:-2}
 # No run takes longer, whatever its solver does.
 HANGS_AFTER=120
-# The large model's bytes.
-export LARGE=20000000
+export LARGE="${LARGE:-20000000}"
 
 work=$(mktemp -d) || exit 1
 trap 'rm -rf "$work"' EXIT

@@ -82,7 +82,7 @@ while [ "$byte" -le "$MOST_WRITTEN" ]; do
         *) fail "dies after $byte bytes of output" "$status: $results" ;;
     esac
     nobody_is_left || fail "dies after $byte bytes of output" 'a process is left'
-    byte=$((byte + 2))
+    byte=$((byte + STEP))
 done
 [ "$is_whole" = yes ] && passed=$((passed + 1)) || fail 'dies at any byte of output' 'never whole'
 byte=0
@@ -91,5 +91,5 @@ while [ "$byte" -le "$MOST_READ" ]; do
     run prove "$book" $pairs --timeout 10 --solver "dd bs=1 count=$byte 2>/dev/null | z3 -smt2 -in"
     expect_not "dies after $byte bytes of input" 'node 4, term 34: Proved'
     [ "$(grep -c '^node' "$out")" -eq 2 ] || fail "dies after $byte bytes of input" 'a question is lost'
-    byte=$((byte + 60))
+    byte=$((byte + 30 * STEP))
 done
