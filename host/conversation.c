@@ -24,10 +24,11 @@ enum { MOST_MARK = 40 };
 /* What a turn of waiting, reading and writing comes to. */
 enum turn { GOES_ON, HAS_FAILED };
 
+/* In milliseconds; below 0 where the system does not say. */
 static int64_t now(void) {
     struct timespec time;
     if (clock_gettime(CLOCK_MONOTONIC, &time) != 0) {
-        return INT64_MAX; /* every time limit is over: an answer is refused rather than waited for without end */
+        return -1;
     }
     return (int64_t)time.tv_sec * MILLISECONDS + time.tv_nsec / NANOSECONDS;
 }
@@ -96,7 +97,11 @@ static enum turn read_errors(struct conversation *talk) {
 
 /* Waits until a pipe is ready, and serves those that are. */
 static enum turn turn(struct conversation *talk, int64_t *deadline) {
-    int64_t left = *deadline - now();
+    int64_t time = now();
+    int64_t left = *deadline - time;
+    if (time < 0) {
+        return fail(talk, FAULT_SYSTEM);
+    }
     if (left <= 0) {
         return fail(talk, talk->process.in < 0 ? FAULT_INPUT_CLOSED : FAULT_TIMEOUT);
     }
@@ -174,7 +179,7 @@ static bool find_mark(struct conversation *talk, struct reading *reading, const 
 /* Waits for the mark, and for the solver to have taken all that is sent to it. */
 static bool wait_for_mark(struct conversation *talk, const char *mark, struct reading *reading) {
     int64_t deadline = deadline_of(talk);
-    bool found = find_mark(talk, reading, mark);
+    bool found = false;
     while (!found || talk->to_send.length > 0) {
         if (turn(talk, &deadline) == HAS_FAILED) {
             return false;
@@ -223,6 +228,7 @@ bool conversation_begin(struct conversation *talk, const struct engine *engine) 
 
 void conversation_end(struct conversation *talk) {
     if (talk->is_open) {
+        log_received(talk->log, talk->errors.at, talk->errors.length);
         (void)process_kill(&talk->process); /* how it ends does not matter any more */
         process_close_all(&talk->process);
         talk->is_open = false;

@@ -89,16 +89,24 @@ static void unproved(struct prover *prover, const struct question *question) {
     raise_status(prover, STATUS_NOT_PROVED);
 }
 
+/* A failure is told even where all else is quiet. */
+static void complain_of_failure(const struct question *question, struct bytes *failure) {
+    for (size_t i = 0; i < failure->length; i++) {
+        failure->at[i] = show_harmless(failure->at[i]);
+    }
+    complain("node %" PRIu32 ", term %" PRIu32 ": %.*s", question->node, question->term, (int)failure->length,
+             failure->length > 0 ? (const char *)failure->at : "");
+}
+
 /* A question whose solver failed: it is shown, and the next one gets a new solver. */
 static void failed(struct prover *prover, const struct question *question) {
-    const struct bytes *failure = &prover->failure;
+    struct bytes *failure = &prover->failure;
     conversation_end(&prover->talk);
     show_result(&prover->show, question->node, question->term, RED, "Unproved, the solver failed");
     show_block(&prover->show, "reason", failure->at, failure->length);
     show_trace(prover, question);
     if (prover->show.is_quiet) {
-        complain("node %" PRIu32 ", term %" PRIu32 ": %.*s", question->node, question->term, (int)failure->length,
-                 failure->length > 0 ? (const char *)failure->at : "");
+        complain_of_failure(question, failure);
     }
     raise_status(prover, STATUS_SOLVER_FAILED);
 }

@@ -2,7 +2,6 @@
 
 #include "complain.h"
 
-#include <errno.h>
 #include <inttypes.h>
 #include <stdio.h>
 #include <stdlib.h>
@@ -14,7 +13,7 @@ static const char CLEARED_LINE[] = "\r\033[K";
 static const char PLAIN[] = "\033[0m";
 static const char *const COLOURS[] = {[GREEN] = "\033[32m", [YELLOW] = "\033[33m", [RED] = "\033[31m"};
 
-enum { LAST_LETTER = '~' };
+enum { FIRST_LETTER = ' ', LAST_LETTER = '~' };
 
 static const char TITLE_INDENT[] = "  ";
 static const char LINE_INDENT[] = "    ";
@@ -44,13 +43,14 @@ void show_result(const struct show *show, uint32_t node, uint32_t term, enum col
     (void)printf("%snode %" PRIu32 ", term %" PRIu32 ": %s%s%s\n", cleared, node, term, before, result, behind);
 }
 
-static bool steers(uint8_t byte) {
-    return (byte < ' ' && byte != '\t') || byte > LAST_LETTER;
+uint8_t show_harmless(uint8_t byte) {
+    bool is_blank = byte == '\t' || byte == '\n';
+    return is_blank || (byte >= FIRST_LETTER && byte <= LAST_LETTER) ? byte : '?';
 }
 
 static void put_line(const struct show *show, const uint8_t *line, size_t length) {
     for (size_t i = 0; i < length; i++) {
-        (void)putchar(show->is_terminal && steers(line[i]) ? '?' : line[i]);
+        (void)putchar(show->is_terminal ? show_harmless(line[i]) : line[i]);
     }
 }
 
@@ -81,6 +81,6 @@ bool show_end(void) {
     if (fflush(stdout) == 0 && ferror(stdout) == 0) {
         return true;
     }
-    complain("standard output cannot be written: %s", strerror(errno));
+    complain("standard output cannot be written");
     return false;
 }

@@ -22,7 +22,10 @@ void show_count(const struct show *show, size_t done, size_t of);
 /* A question's line: what it is, and what came of it. */
 void show_result(const struct show *show, uint32_t node, uint32_t term, enum colour colour, const char *result);
 
-/* A text with its title, indented. On a terminal, bytes that would steer it are shown as `?`. */
+/* A byte as a terminal may get it: `?` in place of one that would steer it. */
+uint8_t show_harmless(uint8_t byte);
+
+/* A text with its title, indented; on a terminal its bytes are made harmless. */
 void show_block(const struct show *show, const char *title, const uint8_t *text, size_t length);
 
 /* The text alone. */

@@ -59,8 +59,8 @@ typedef struct {
 
 /*
  * Prints a term: refusals 1 to 7 and 10. `tag` is the number that stands for the literal %tag. With `newlines` other than 0 each part
- * of a row has a line of its own, two spaces deeper than the row; the first row stands at `indent` spaces. Else it is one line, and the
- * indent is not looked at. The text has no line end behind it.
+ * of a row has a line of its own, two spaces deeper than the row, and the outermost row counts as standing at `indent` spaces,
+ * which are not written before it. Else it is one line, and the indent is not looked at. No line end stands behind the text.
  */
 leskofar_printed leskofar_print(const uint8_t *book, size_t book_len, uint8_t *scratch, size_t scratch_len, uint32_t term, uint64_t tag,
                                 uint32_t newlines, uint64_t indent, uint8_t *text, size_t text_len);

@@ -51,10 +51,21 @@ lives() { # number
     [ -r "/proc/$1/stat" ] && ! grep -q '^[0-9]* (.*) Z' "/proc/$1/stat" 2>/dev/null
 }
 
-nobody_is_left() {
+somebody_lives() {
     while read -r pid; do
-        lives "$pid" && return 1
+        lives "$pid" && return 0
     done <"$SOLVER_PIDS"
+    return 1
+}
+
+# The host waits for the solver itself; who else was killed with it takes a moment to go.
+nobody_is_left() {
+    tries=0
+    while somebody_lives; do
+        tries=$((tries + 1))
+        [ "$tries" -lt 20 ] || return 1
+        sleep 0.1
+    done
     return 0
 }
 

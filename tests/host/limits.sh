@@ -59,8 +59,6 @@ for signal in 1 2 15; do
     kill "-$signal" "$host_pid"
     wait "$host_pid" 2>/dev/null
     status=$?
-    # The system takes the killed ones away in its own time.
-    sleep 0.3
     expect "signal $signal" $((128 + signal))
 done
 
