@@ -46,6 +46,12 @@ printf '(=\n     box_1\n     4)\n' >"$work/wanted"
 cmp -s "$out" "$work/wanted" && passed=$((passed + 1)) || fail 'print with lines' "another text: $(cat "$out")"
 run print "$book" --indent=3 --lines -- 2
 cmp -s "$out" "$work/wanted" && passed=$((passed + 1)) || fail 'print with options before' "another text: $(cat "$out")"
+book_of shades
+for tag in 0 18446744073709551615; do
+    run print "$work/shades.book" 3 --tag "$tag"
+    printf '(= (tag_of |red:Shade|) %s)\n' "$tag" >"$work/wanted"
+    cmp -s "$out" "$work/wanted" && passed=$((passed + 1)) || fail "print with tag $tag" "another text: $(cat "$out")"
+done
 run print "$book" 35
 expect 'print of no term' 2 'refused 7: the node or term is not in the book'
 run print "$book" 34 --lines --indent 18446744073709551615
