@@ -45,15 +45,19 @@ static void input_closed(struct conversation *talk, int64_t *deadline) {
     *deadline = last_words < *deadline ? last_words : *deadline;
 }
 
+static bool has_to_send(const struct conversation *talk) {
+    return talk->sent < talk->to_send.length;
+}
+
 /* The solver takes what fits its pipe. */
 static enum turn write_some(struct conversation *talk, short ready, int64_t *deadline) {
     if ((ready & POLLOUT) == 0) {
         input_closed(talk, deadline);
         return GOES_ON;
     }
-    ssize_t written = write(talk->process.in, talk->to_send.at, talk->to_send.length);
+    ssize_t written = write(talk->process.in, talk->to_send.at + talk->sent, talk->to_send.length - talk->sent);
     if (written >= 0) {
-        bytes_drop(&talk->to_send, (size_t)written);
+        talk->sent += (size_t)written;
     } else if (errno == EPIPE) {
         input_closed(talk, deadline);
     } else if (errno != EAGAIN && errno != EINTR) {
@@ -105,7 +109,7 @@ static enum turn turn(struct conversation *talk, int64_t *deadline) {
     if (left <= 0) {
         return fail(talk, talk->process.in < 0 ? FAULT_INPUT_CLOSED : FAULT_TIMEOUT);
     }
-    struct pollfd ready[] = {{talk->process.in, talk->to_send.length > 0 ? POLLOUT : 0, 0},
+    struct pollfd ready[] = {{talk->process.in, has_to_send(talk) ? POLLOUT : 0, 0},
                              {talk->process.out, POLLIN, 0},
                              {talk->process.err, POLLIN, 0}};
     if (poll(ready, sizeof ready / sizeof ready[0], left < INT_MAX ? (int)left : INT_MAX) < 0) {
@@ -126,6 +130,8 @@ static enum turn turn(struct conversation *talk, int64_t *deadline) {
 
 static bool queue(struct conversation *talk, const uint8_t *text, size_t length) {
     log_sent(talk->log, text, length);
+    bytes_drop(&talk->to_send, talk->sent);
+    talk->sent = 0;
     return bytes_add(&talk->to_send, text, length) || fail(talk, FAULT_MEMORY) == GOES_ON;
 }
 
@@ -136,7 +142,7 @@ static int64_t deadline_of(const struct conversation *talk) {
 bool conversation_tell(struct conversation *talk, const uint8_t *text, size_t length) {
     int64_t deadline = deadline_of(talk);
     bool goes_on = queue(talk, text, length);
-    while (goes_on && talk->to_send.length > 0) {
+    while (goes_on && has_to_send(talk)) {
         goes_on = turn(talk, &deadline) == GOES_ON;
     }
     return goes_on;
@@ -180,7 +186,7 @@ static bool find_mark(struct conversation *talk, struct reading *reading, const 
 static bool wait_for_mark(struct conversation *talk, const char *mark, struct reading *reading) {
     int64_t deadline = deadline_of(talk);
     bool found = false;
-    while (!found || talk->to_send.length > 0) {
+    while (!found || has_to_send(talk)) {
         if (turn(talk, &deadline) == HAS_FAILED) {
             return false;
         }
@@ -213,6 +219,7 @@ bool conversation_ask(struct conversation *talk, const uint8_t *text, size_t len
 
 bool conversation_begin(struct conversation *talk, const struct engine *engine) {
     talk->to_send.length = 0;
+    talk->sent = 0;
     talk->received.length = 0;
     talk->answered = 0;
     talk->errors.length = 0;

@@ -33,12 +33,13 @@ struct conversation {
     struct process process;
     struct limits limits;
     struct log *log;
-    uint64_t marks;         /* the mark's number */
-    struct bytes to_send;   /* what the solver has not taken yet */
-    struct bytes received;  /* what the solver has written, from the present answer's begin */
-    size_t answered;        /* how much of that belongs to the answer before, its mark included */
-    struct bytes errors;    /* what it has written to its standard error, the first of it */
-    struct bytes fault;     /* why the conversation is over */
+    uint64_t marks;        /* the last mark's number */
+    struct bytes to_send;  /* what is on its way to the solver */
+    size_t sent;           /* how much of that the solver has taken */
+    struct bytes received; /* what the solver has written, from the last answer's begin */
+    size_t answered;       /* how much of that is the last answer, its mark included */
+    struct bytes errors;   /* what it has written to its standard error, the first of it */
+    struct bytes fault;    /* why the conversation is over */
 };
 
 /* Starts a solver. Nothing of an earlier conversation is left but the mark's number. */

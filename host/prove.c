@@ -134,13 +134,17 @@ static void close_failed(struct prover *prover, const struct question *question)
     }
 }
 
-/* Sends the writer's text to the solver; a new one is told first what it has to know. */
-static bool send(struct prover *prover, struct answer *answer) {
+/* Whether a solver is there; a new one is told first what it has to know. */
+static bool has_solver(struct prover *prover) {
     struct conversation *talk = &prover->talk;
     const struct bytes *first = &prover->first;
+    return talk->is_open || (conversation_begin(talk, &prover->engine) && conversation_tell(talk, first->at, first->length));
+}
+
+/* Sends the writer's text to the solver, and waits for the answer. */
+static bool send(struct prover *prover, struct answer *answer) {
     const struct bytes *text = &prover->writer->text;
-    bool is_ready = talk->is_open || (conversation_begin(talk, &prover->engine) && conversation_tell(talk, first->at, first->length));
-    return is_ready && conversation_ask(talk, text->at, text->length, answer);
+    return conversation_ask(&prover->talk, text->at, text->length, answer);
 }
 
 /* The model is owed. Without one the reply alone is the reason. */
@@ -191,7 +195,7 @@ static void ask(struct prover *prover, const struct question *question) {
     }
     if (refusal != LESKOFAR_ACCEPTED) {
         refused(prover, question, refusal);
-    } else if (!send(prover, &answer)) {
+    } else if (!has_solver(prover) || !send(prover, &answer)) {
         note_failure(prover, "", NULL);
         close_failed(prover, question);
     } else if (!is_reply(&answer)) {
@@ -213,6 +217,7 @@ void prover_ask_all(struct prover *prover, const struct question *questions, siz
     for (size_t i = 0; i < count; i++) {
         show_count(&prover->show, i, count);
         ask(prover, &questions[i]);
+        show_flush();
     }
 }
 

@@ -29,7 +29,7 @@ struct show show_begin(bool is_quiet) {
 void show_count(const struct show *show, size_t done, size_t of) {
     if (show->is_terminal && !show->is_quiet) {
         (void)printf("%s%zu of %zu done", CLEARED_LINE, done, of);
-        (void)fflush(stdout);
+        show_flush();
     }
 }
 
@@ -75,6 +75,10 @@ void show_text(const uint8_t *text, size_t length) {
     if (length > 0) {
         (void)fwrite(text, 1, length, stdout);
     }
+}
+
+void show_flush(void) {
+    (void)fflush(stdout);
 }
 
 bool show_end(void) {

@@ -34,8 +34,9 @@ static bool caught(int signal) {
     return before.sa_handler == SIG_IGN || set(signal, kill_watched);
 }
 
+/* An ignored SIGCHLD, which is inherited, would hide how a solver ended. */
 bool signals_prepare(void) {
-    bool prepared = set(SIGPIPE, SIG_IGN);
+    bool prepared = set(SIGPIPE, SIG_IGN) && set(SIGCHLD, SIG_DFL);
     for (size_t i = 0; i < ENDING_COUNT; i++) {
         prepared = prepared && caught(ENDING[i]);
     }

@@ -101,6 +101,15 @@ expect_results() { # name results
     fi
 }
 
+# How many solvers a run has started, by its log.
+expect_solvers() { # name log count
+    if [ "$(grep -c '^; a new solver$' "$2")" -eq "$3" ]; then
+        passed=$((passed + 1))
+    else
+        fail "$1" "not $3 solvers"
+    fi
+}
+
 # A sample as a book, with its goals' numbers.
 book_of() { # sample
     "$TOOLS/plan" book "samples/$1.plan" -o "$work/$1.book" --goals >"$work/$1.goals" || exit 1

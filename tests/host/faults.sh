@@ -75,7 +75,7 @@ rm -f "$ONCE"
 run prove "$book" 4 34 3 34 4 34 3 34 --solver tests/solvers/fails_once.sh --log "$work/once.log"
 expect 'fails_once' 3
 expect_results 'fails_once' 'Unproved Proved Unproved Proved'
-[ "$(grep -c '^; a new solver' "$work/once.log")" -eq 2 ] && passed=$((passed + 1)) || fail 'fails_once' 'not two solvers'
+expect_solvers 'fails_once' "$work/once.log" 2
 
 # Each question of a solver that always fails gets its own answer.
 run prove "$book" 3 34 4 34 1 34 --solver tests/solvers/killed_before_reply.sh

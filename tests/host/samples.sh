@@ -10,8 +10,10 @@ for solver in z3 cvc5; do
         expect_results "$1 with $solver" "$3"
     }
     sample limit_proved 0 'Proved'
+    expect_solvers "one question with $solver" "$work/limit_proved.log" 1
     sample limit_not_proved 1 'Unproved Proved Unproved'
     sample siblings 1 'Proved Unproved Proved'
+    expect_solvers "three questions with $solver" "$work/siblings.log" 1
     sample distance_axiom 1 'Proved Unproved'
     sample open_step 1 'Proved Unproved Proved'
     sample patterns 1 'Proved Proved Unproved'
@@ -47,9 +49,10 @@ PLAN
 PLAN
     "$TOOLS/plan" book "$work/unread.plan" -o "$work/unread.book" --goals >"$work/unread.goals" || exit 1
     # shellcheck disable=SC2046
-    run prove "$work/unread.book" $(cut -d ' ' -f 1,2 "$work/unread.goals") --solver "$solver"
+    run prove "$work/unread.book" $(cut -d ' ' -f 1,2 "$work/unread.goals") --solver "$solver" --log "$work/unread.log"
     expect "a term that $solver cannot read" 3 '(error "'
     expect_results "a term that $solver cannot read" 'Unproved Proved'
+    expect_solvers "a term that $solver cannot read" "$work/unread.log" 2
 done
 
 # The log is the conversation: run again as a script, it gives the same replies.
