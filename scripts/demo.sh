@@ -21,6 +21,10 @@ command -v z3 >/dev/null 2>&1 || echo 'z3 is missing: installing the Debian pack
 need z3 z3 || missing z3 z3
 need cc gcc || missing cc gcc
 need cargo cargo || missing cargo cargo
+if [ -z "${LIB:-}" ] && ! command -v rt >/dev/null 2>&1; then
+    echo 'make demo needs the Rattle kit, whose command is rt, to build the library' >&2
+    exit 1
+fi
 z3 --version
 
 say 'Library, host and tools'

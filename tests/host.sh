@@ -116,10 +116,13 @@ book_of() { # sample
     pairs=$(cut -d ' ' -f 1,2 "$work/$1.goals" | tr '\n' ' ')
 }
 
+# A solver that answers gets time enough, also on a busy machine.
+ENOUGH=60
+seconds=$ENOUGH
 fault() { # solver status [text...]
     solver=$1
     shift
-    run prove "$book" 3 34 --timeout "$PATIENCE" --solver "exec tests/solvers/$solver.sh"
+    run prove "$book" 3 34 --timeout "$seconds" --solver "exec tests/solvers/$solver.sh"
     expect "$solver" "$@"
 }
 
@@ -129,6 +132,13 @@ fails() { # solver [text...]
     shift
     fault "$solver" 3 'Unproved, the solver failed' "$@"
     expect_not "$solver" ': Proved'
+}
+
+# One that does not end by itself.
+hangs() { # solver [text...]
+    seconds=$PATIENCE
+    fails "$@"
+    seconds=$ENOUGH
 }
 
 for group in ${PARTS:-usage samples faults limits plans}; do

@@ -12,24 +12,24 @@ fails killed_in_reply 'before its answer was whole' 'its output: uns'
 fails killed_behind_reply 'before its answer was whole' 'its output: unsat'
 fails killed_at_model 'before its answer was whole' '((define-fun x () Int'
 fails ends_with_status 'ended with status 7' 'out of patience'
-fails silent "no whole answer within $PATIENCE seconds"
-fails silent_at_model "no whole answer within $PATIENCE seconds"
-fails endless
-fails endless_errors "no whole answer within $PATIENCE seconds" 'its error output: trouble'
-fails endless_string
+hangs silent "no whole answer within $PATIENCE seconds"
+hangs silent_at_model "no whole answer within $PATIENCE seconds"
+hangs endless
+hangs endless_errors "no whole answer within $PATIENCE seconds" 'its error output: trouble'
+hangs endless_string
 fails closed_input 'closed its input'
 fails closed_output 'closed its output'
-fails never_reads "no whole answer within $PATIENCE seconds"
+hangs never_reads "no whole answer within $PATIENCE seconds"
 fails ends_at_once
 fails wrong_first_line 'Welcome to the solver'
-fails rubbish
-fails unbalanced "no whole answer within $PATIENCE seconds" '((((unsat'
+hangs rubbish
+hangs unbalanced "no whole answer within $PATIENCE seconds" '((((unsat'
 fails closes_too_much ')unsat'
 fails unsupported 'answered the check with unsupported'
 fails rubbish_model "the solver's answer is no model: sat sat"
 fails errors_before 'unknown constant' 'unsat'
 fails no_reply 'gave no reply to the check'
-fails foreign_mark "no whole answer within $PATIENCE seconds"
+hangs foreign_mark "no whole answer within $PATIENCE seconds"
 fails success 'success'
 fails almost_unsat 'unsat-core'
 fails barred_unsat '|unsat|'
@@ -56,17 +56,17 @@ PATH=$PATH_BEFORE
 expect 'z3 is not there' 3 'the solver could not be started' 'z3: No such file or directory'
 
 # Errors for a pop come with the next question, and fail that one alone.
-run prove "$book" 3 34 3 34 3 34 --solver tests/solvers/error_at_pop.sh --timeout "$PATIENCE"
+run prove "$book" 3 34 3 34 3 34 --solver tests/solvers/error_at_pop.sh
 expect 'error_at_pop' 3 'no level'
 expect_results 'error_at_pop' 'Proved Unproved Proved'
 
 # A reply too many does not answer the next question.
-run prove "$book" 3 34 4 34 --solver tests/solvers/replies_twice.sh --timeout "$PATIENCE"
+run prove "$book" 3 34 4 34 --solver tests/solvers/replies_twice.sh
 expect 'replies_twice' 3
 expect_not 'replies_twice' ': Proved'
 
 # Nor do replies and marks inside a model.
-run prove "$book" 3 34 4 34 3 34 --solver tests/solvers/hides_mark.sh --timeout "$PATIENCE"
+run prove "$book" 3 34 4 34 3 34 --solver tests/solvers/hides_mark.sh
 expect 'hides_mark' 1
 expect_results 'hides_mark' 'Unproved Unproved Unproved'
 

@@ -72,7 +72,7 @@ is_whole=no
 while [ "$byte" -le "$MOST_WRITTEN" ]; do
     export CUT_OFF="$byte"
     # shellcheck disable=SC2086
-    run prove "$book" $pairs --timeout 10 --solver 'exec tests/solvers/cut_off.sh'
+    run prove "$book" $pairs --solver 'exec tests/solvers/cut_off.sh'
     results=$(sed -n 's/^node [0-9]*, term [0-9]*: \([A-Za-z]*\).*/\1/p' "$out" | tr '\n' ' ')
     case $status.$results in
         '3.Unproved Unproved ' | '3.Proved Unproved ') passed=$((passed + 1)) ;;
@@ -86,7 +86,7 @@ done
 byte=0
 while [ "$byte" -le "$MOST_READ" ]; do
     # shellcheck disable=SC2086
-    run prove "$book" $pairs --timeout 10 --solver "dd bs=1 count=$byte 2>/dev/null | z3 -smt2 -in"
+    run prove "$book" $pairs --solver "dd bs=1 count=$byte 2>/dev/null | z3 -smt2 -in"
     expect_not "dies after $byte bytes of input" 'node 4, term 34: Proved'
     [ "$(grep -c '^node' "$out")" -eq 2 ] || fail "dies after $byte bytes of input" 'a question is lost'
     byte=$((byte + 30 * STEP))

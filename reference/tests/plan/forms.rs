@@ -48,13 +48,15 @@ fn symbols_and_their_names() {
 #[test]
 fn printed_literals() {
     let text = "
-        (type S) (type |b:S|) (type T :name \"b:S\") (constant |c:S| Int)
+        (type S) (type |b:S|) (type T :name \"b:S\") (type U :name \"tint\")
+        (constant |c:S| Int)
         (term a |red:S|) (term b |a:b:S|) (term c |:int|) (term d |a b:bool|) (term e |c:S|)
-        (term f (= |red:S| |x:b:S|))";
+        (term f (= |red:S| |x:b:S|)) (term g |red:tint|)";
     let mut m = Maker::default();
     let s = m.user_type("S");
     m.user_type("|b:S|");
     m.user_type("b:S");
+    let tint = m.user_type("tint");
     let constant = m.constant("|c:S|", INT);
     m.literal("red", s);
     m.literal("a:b", s);
@@ -63,6 +65,7 @@ fn printed_literals() {
     m.id(constant);
     let args = [m.literal("red", s), m.literal("x:b", s)];
     m.built_in("=", &args);
+    m.literal("red", tint);
     assert_holds(text, &m);
 }
 
