@@ -43,34 +43,47 @@ enum leskofar_refusal {
 #define LESKOFAR_SCRATCH 1024
 
 /*
+ * Bytes of stack that are enough for any call, beside what the caller and its thread take. The deepest terms that a book can hold need
+ * nearly all of it (docs/PERFORMANCE.md); every other call needs a few thousand bytes.
+ */
+#define LESKOFAR_STACK (200 * 1024)
+
+/*
  * Tests a book: refusals 1 to 6, the first that holds, each decided for the whole book before the next; 0 for a good book.
  * Afterwards the scratch is all zero, also where it is longer than it need be; under refusal 1 it is not touched.
  */
 uint32_t leskofar_book_test(const uint8_t *book, size_t book_len, uint8_t *scratch, size_t scratch_len);
 
-/* A session's image has this many bytes (docs/SESSION.md). */
-#define LESKOFAR_IMAGE 1616
-
-/* What a printing call answers. */
+/* What a call answers that writes a text: 0 and the text's length, or why it is refused and 0. */
 typedef struct {
-    uint32_t refusal; /* 0, or why the call is refused */
-    uint64_t length;  /* of the text, which stands at the buffer's begin; 0 where the call is refused */
+    uint32_t refusal;
+    uint64_t length;
 } leskofar_printed;
 
 /*
- * Prints a term: refusals 1 to 7 and 10. `tag` is the number that stands for the literal %tag. With `newlines` other than 0 each part
- * of a row has a line of its own, two spaces deeper than the row, and the outermost row counts as standing at `indent` spaces,
- * which are not written before it. Else it is one line, and the indent is not looked at. No line end stands behind the text.
+ * Prints a term of the book into the text buffer: refusals 1 to 7 and 10, the first that holds. `tag` is the number that the literal
+ * %tag stands for. `newlines` is a flag, 0 or any other number: 0 for one line; else each part of a list behind its first is on a line
+ * of its own, two spaces deeper than the list, which itself is taken to stand `indent` spaces deep. The text has no line end and no
+ * zero byte at its end. Bytes of the buffer behind the text keep what they hold; a refused call changes none at all.
  */
 leskofar_printed leskofar_print(const uint8_t *book, size_t book_len, uint8_t *scratch, size_t scratch_len, uint32_t term, uint64_t tag,
                                 uint32_t newlines, uint64_t indent, uint8_t *text, size_t text_len);
 
-/* Prints the traces on the way from the root to a node, a line for each: refusals 1 to 7 and 10. Node 0 is the root and has none. */
+/*
+ * Prints the traces of a node and of the nodes above it, from the root down, a line for each that has one: two spaces, the trace, a line
+ * end. Node 0, the root, has none. Refusals and buffers as above.
+ */
 leskofar_printed leskofar_trace(const uint8_t *book, size_t book_len, uint8_t *scratch, size_t scratch_len, uint32_t node, uint8_t *text,
                                 size_t text_len);
 
-/* Writes the name of the operator with a code from 1 to 14: refusals 11, then 10. */
+/*
+ * Writes the name of an operator by its code, 1 to 14: = => and or = < <= + - * div mod not -. Refusals 11 and 10, in this order. It
+ * takes neither a book nor a scratch.
+ */
 leskofar_printed leskofar_operator(uint32_t code, uint8_t *text, size_t text_len);
+
+/* A session's image has this many bytes (docs/SESSION.md). */
+#define LESKOFAR_IMAGE 1616
 
 /* What a session's call leads to. */
 enum leskofar_result {

@@ -80,14 +80,15 @@ fi
 part 'the library, against the reference and from C'
 if rt staticlib leskofar >"$log" 2>&1 && need cargo cargo && need cc gcc; then
     counted 'comparison' cargo run --quiet --offline --release --manifest-path compare/Cargo.toml
-    capi=target/capi
-    if cc -std=c11 -Wall -Wextra -Werror -pedantic -Iinclude tests/capi.c target/staticlib/libleskofar.a -o "$capi" >"$log" 2>&1; then
-        counted 'C interface' "$capi"
-    else
-        cat "$log"
-        echo 'FAILED: the C test does not compile'
-        count 0 1
-    fi
+    for test in capi stack; do
+        if cc -std=c11 -Wall -Wextra -Werror -pedantic -pthread -Iinclude "tests/$test.c" target/staticlib/libleskofar.a -o "target/$test" >"$log" 2>&1; then
+            counted "tests/$test.c" "target/$test"
+        else
+            cat "$log"
+            echo "FAILED: tests/$test.c does not compile"
+            count 0 1
+        fi
+    done
 else
     cat "$log"
     echo 'FAILED: no static library, or no compiler'

@@ -1,9 +1,10 @@
 /* The library as C sees it: the header is enough, NULL stands for an empty buffer, and each answer has its name. */
+#include "made_book.h"
 #include <leskofar.h>
 #include <stdio.h>
 #include <string.h>
 
-enum { SECTIONS = 10, CONTENTS = 8 * SECTIONS, FILL = 0xA5 };
+enum { FILL = 0xA5, BOOK_SIZE = 512, TEXT_SIZE = 64, TAG = 42 };
 
 static int passed;
 static int failed;
@@ -18,11 +19,25 @@ static void expect(const char *name, int holds) {
 }
 
 /* A book without records: every section is empty and begins behind the contents. */
-static void empty_book(uint8_t book[CONTENTS]) {
-    memset(book, 0, CONTENTS);
-    for (int i = 0; i < SECTIONS; i++) {
-        book[8 * i] = CONTENTS;
-    }
+static size_t empty_book(uint8_t *book) {
+    const struct section none[SECTIONS - 1] = {{NULL, 0, 0}};
+    return write_book(book, "", none);
+}
+
+/* Terms x, %tag and (and x %tag), and a node with the trace "x". */
+enum { AND_TERM = 2, TERMS = 3, NODES = 1 };
+
+static size_t small_book(uint8_t *book) {
+    static const uint32_t names[] = {0, 1, 1, 3, 4, 4};
+    static const uint32_t constants[] = {0, 1};
+    static const uint32_t terms[] = {3, 0, 0, 0, 0, 0, 0, 2, 2, 1, 0, 0, 0, 0, 4, 1, 0, 2, 0, 0, 0};
+    static const uint32_t contexts[] = {0, AND_TERM, 1};
+    static const uint32_t lists[] = {0, 1};
+    const struct section sections[SECTIONS - 1] = {
+        {names, 3, 2}, {NULL, 0, 0},      {constants, 1, 2},    {NULL, 0, 0}, {NULL, 0, 0},
+        {NULL, 0, 0},  {terms, TERMS, 7}, {contexts, NODES, 3}, {lists, 2, 1},
+    };
+    return write_book(book, "xand%tag", sections);
 }
 
 static int all_are(const uint8_t *bytes, size_t len, uint8_t value) {
@@ -37,81 +52,119 @@ static int all_are(const uint8_t *bytes, size_t len, uint8_t value) {
 static void book_tests(void) {
     uint8_t book[CONTENTS];
     uint8_t scratch[LESKOFAR_SCRATCH + 1];
+    size_t len = empty_book(book);
 
-    empty_book(book);
     memset(scratch, FILL, sizeof scratch);
-    expect("an empty book", leskofar_book_test(book, sizeof book, scratch, sizeof scratch) == LESKOFAR_ACCEPTED);
+    expect("an empty book", leskofar_book_test(book, len, scratch, sizeof scratch) == LESKOFAR_ACCEPTED);
     expect("the scratch is zero", all_are(scratch, sizeof scratch, 0));
 
     memset(scratch, FILL, sizeof scratch);
-    expect("a short scratch", leskofar_book_test(book, sizeof book, scratch, LESKOFAR_SCRATCH - 1) == LESKOFAR_SHORT_SCRATCH);
+    expect("a short scratch", leskofar_book_test(book, len, scratch, LESKOFAR_SCRATCH - 1) == LESKOFAR_SHORT_SCRATCH);
     expect("it is not touched", all_are(scratch, sizeof scratch, FILL));
 
-    expect("no scratch at all", leskofar_book_test(book, sizeof book, NULL, 0) == LESKOFAR_SHORT_SCRATCH);
+    expect("no scratch at all", leskofar_book_test(book, len, NULL, 0) == LESKOFAR_SHORT_SCRATCH);
     expect("no book at all", leskofar_book_test(NULL, 0, scratch, sizeof scratch) == LESKOFAR_BAD_CONTENTS);
     expect("neither", leskofar_book_test(NULL, 0, NULL, 0) == LESKOFAR_SHORT_SCRATCH);
-    expect("a book cut short", leskofar_book_test(book, sizeof book - 1, scratch, sizeof scratch) == LESKOFAR_BAD_CONTENTS);
+    expect("a book cut short", leskofar_book_test(book, len - 1, scratch, sizeof scratch) == LESKOFAR_BAD_CONTENTS);
 }
 
-static void printing_calls(void) {
-    uint8_t book[CONTENTS];
+static int refused(leskofar_printed answer, uint32_t refusal) {
+    return answer.refusal == refusal && answer.length == 0;
+}
+
+/* Whether a call was accepted, has just this text, and left the rest of its buffer alone. */
+static int wrote(leskofar_printed answer, const uint8_t *text, const char *expected) {
+    size_t len = strlen(expected);
+    return answer.refusal == LESKOFAR_ACCEPTED && answer.length == len && memcmp(text, expected, len) == 0 &&
+           all_are(text + len, TEXT_SIZE - len, FILL);
+}
+
+/* A book, a scratch and a text buffer for the calls of a test. */
+struct desk {
+    uint8_t book[BOOK_SIZE];
+    size_t book_len;
     uint8_t scratch[LESKOFAR_SCRATCH];
-    uint8_t text[4];
+    uint8_t text[TEXT_SIZE];
+};
 
-    empty_book(book);
-    leskofar_printed printed = leskofar_print(book, sizeof book, scratch, sizeof scratch, 0, 0, 1, 0, text, sizeof text);
-    expect("no term to print", printed.refusal == LESKOFAR_NOT_IN_BOOK && printed.length == 0);
-    printed = leskofar_trace(book, sizeof book, scratch, sizeof scratch, 0, NULL, 0);
-    expect("the root has no trace", printed.refusal == LESKOFAR_ACCEPTED && printed.length == 0);
-    printed = leskofar_trace(book, sizeof book, scratch, sizeof scratch, 1, text, sizeof text);
-    expect("no node to trace", printed.refusal == LESKOFAR_NOT_IN_BOOK);
+static void set_up(struct desk *d) {
+    d->book_len = small_book(d->book);
+    memset(d->scratch, FILL, sizeof d->scratch);
+    memset(d->text, FILL, sizeof d->text);
+}
 
+static leskofar_printed print_in(struct desk *d, uint32_t term, uint32_t newlines, uint64_t indent, size_t room) {
+    return leskofar_print(d->book, d->book_len, d->scratch, sizeof d->scratch, term, TAG, newlines, indent, d->text, room);
+}
+
+static leskofar_printed trace_in(struct desk *d, uint32_t node, size_t room) {
+    return leskofar_trace(d->book, d->book_len, d->scratch, sizeof d->scratch, node, d->text, room);
+}
+
+static void print_tests(void) {
+    static const char one_line[] = "(and x 42)";
+    static const char lines[] = "(and\n     x\n     42)";
+    static const uint32_t flags[] = {1, 7, UINT32_MAX};
+    const size_t fitting = strlen(one_line);
+    const uint64_t indent = 3;
+    struct desk d;
+
+    set_up(&d);
+    expect("a term on one line", wrote(print_in(&d, AND_TERM, 0, indent, TEXT_SIZE), d.text, one_line));
+    expect("the scratch is zero after it", all_are(d.scratch, sizeof d.scratch, 0));
+    for (size_t i = 0; i < sizeof flags / sizeof flags[0]; i++) {
+        set_up(&d);
+        expect("a term on lines", wrote(print_in(&d, AND_TERM, flags[i], indent, TEXT_SIZE), d.text, lines));
+    }
+    set_up(&d);
+    expect("a full buffer", wrote(print_in(&d, AND_TERM, 0, 0, fitting), d.text, one_line));
+    set_up(&d);
+    expect("one line at the largest indent", wrote(print_in(&d, AND_TERM, 0, UINT64_MAX, TEXT_SIZE), d.text, one_line));
+
+    set_up(&d);
+    expect("lines at the largest indent", refused(print_in(&d, AND_TERM, 1, UINT64_MAX, TEXT_SIZE), LESKOFAR_BUFFER_TOO_SHORT));
+    expect("one byte less", refused(print_in(&d, AND_TERM, 0, 0, fitting - 1), LESKOFAR_BUFFER_TOO_SHORT));
+    expect("a term that is not there", refused(print_in(&d, TERMS, 0, 0, TEXT_SIZE), LESKOFAR_NOT_IN_BOOK));
+    expect("no text buffer", refused(leskofar_print(d.book, d.book_len, d.scratch, sizeof d.scratch, AND_TERM, TAG, 0, 0, NULL, 0),
+                                     LESKOFAR_BUFFER_TOO_SHORT));
+    expect("nothing at all", refused(leskofar_print(NULL, 0, NULL, 0, 0, 0, 0, 0, NULL, 0), LESKOFAR_SHORT_SCRATCH));
+    d.book_len--;
+    expect("a book cut short, to print", refused(print_in(&d, AND_TERM, 0, 0, TEXT_SIZE), LESKOFAR_BAD_CONTENTS));
+    expect("refused calls leave the text alone", all_are(d.text, sizeof d.text, FILL));
+}
+
+static void trace_tests(void) {
+    struct desk d;
+
+    set_up(&d);
+    expect("a node that is not there", refused(trace_in(&d, NODES + 1, TEXT_SIZE), LESKOFAR_NOT_IN_BOOK));
+    expect("a trace without room", refused(trace_in(&d, NODES, 0), LESKOFAR_BUFFER_TOO_SHORT));
+    expect("the root has no trace", wrote(trace_in(&d, 0, 0), d.text, ""));
+    expect("a trace", wrote(trace_in(&d, NODES, TEXT_SIZE), d.text, "  x\n"));
+    expect("nothing to trace", refused(leskofar_trace(NULL, 0, NULL, 0, 0, NULL, 0), LESKOFAR_SHORT_SCRATCH));
+}
+
+static void operator_tests(void) {
+    static const char *const names[] = {"=", "=>", "and", "or", "=", "<", "<=", "+", "-", "*", "div", "mod", "not", "-"};
+    const uint32_t count = sizeof names / sizeof names[0];
+    uint8_t text[TEXT_SIZE];
+
+    for (uint32_t code = 1; code <= count; code++) {
+        memset(text, FILL, sizeof text);
+        expect("an operator", wrote(leskofar_operator(code, text, sizeof text), text, names[code - 1]));
+    }
     memset(text, FILL, sizeof text);
-    printed = leskofar_operator(3, text, 3);
-    expect("an operator", printed.refusal == LESKOFAR_ACCEPTED && printed.length == 3 && memcmp(text, "and", 3) == 0);
-    expect("nothing behind it", text[3] == FILL);
-    printed = leskofar_operator(3, text, 2);
-    expect("a buffer too short", printed.refusal == LESKOFAR_BUFFER_TOO_SHORT && printed.length == 0);
-    expect("operator 0", leskofar_operator(0, text, 0).refusal == LESKOFAR_NO_OPERATOR);
-    expect("operator 15", leskofar_operator(15, text, sizeof text).refusal == LESKOFAR_NO_OPERATOR);
-}
-
-static void session_calls(void) {
-    static const uint8_t UNSAT[] = {'u', 'n', 's', 'a', 't'};
-    uint8_t book[CONTENTS];
-    uint8_t scratch[LESKOFAR_SCRATCH];
-    uint8_t image[LESKOFAR_IMAGE + 1];
-
-    empty_book(book);
-    memset(image, FILL, sizeof image);
-    expect("an image too short", leskofar_fresh(image, LESKOFAR_IMAGE - 1) == LESKOFAR_NO_SESSION);
-    expect("an image too long", leskofar_fresh(image, sizeof image) == LESKOFAR_NO_SESSION);
-    expect("it is not touched", all_are(image, sizeof image, FILL));
-    expect("a fresh image", leskofar_fresh(image, LESKOFAR_IMAGE) == LESKOFAR_ACCEPTED);
-    expect("its kind, and 0 elsewhere", image[0] == 1 && all_are(image + 1, LESKOFAR_IMAGE - 1, 0) && image[LESKOFAR_IMAGE] == FILL);
-
-    leskofar_answer answer = leskofar_move(book, sizeof book, scratch, sizeof scratch, image, LESKOFAR_IMAGE, 0, NULL, 0);
-    expect("a move to where it is", answer.refusal == LESKOFAR_ACCEPTED && answer.result == LESKOFAR_WRITTEN && answer.text == 0);
-    answer = leskofar_move(book, sizeof book, scratch, sizeof scratch, image, LESKOFAR_IMAGE, 1, NULL, 0);
-    expect("no node to move to", answer.refusal == LESKOFAR_NOT_IN_BOOK);
-    answer = leskofar_ask(book, sizeof book, scratch, sizeof scratch, image, LESKOFAR_IMAGE, 0, 0, NULL, 0);
-    expect("no term to ask", answer.refusal == LESKOFAR_NOT_IN_BOOK);
-    answer = leskofar_reply(book, sizeof book, scratch, sizeof scratch, image, LESKOFAR_IMAGE, 1, UNSAT, sizeof UNSAT, NULL, 0, NULL, 0);
-    expect("no reply owed", answer.refusal == LESKOFAR_NO_REPLY_OWED && answer.result == 0 && answer.text == 0 && answer.reason == 0);
-    answer = leskofar_model(book, sizeof book, scratch, sizeof scratch, image, LESKOFAR_IMAGE, UNSAT, sizeof UNSAT, 0, NULL, 0, NULL, 0,
-                            NULL, 0);
-    expect("no model owed", answer.refusal == LESKOFAR_NO_MODEL_OWED);
-    answer = leskofar_move(book, sizeof book, scratch, sizeof scratch, image, sizeof image, 0, NULL, 0);
-    expect("no session", answer.refusal == LESKOFAR_NO_SESSION);
-    image[LESKOFAR_IMAGE - 1] = 1;
-    answer = leskofar_move(book, sizeof book, scratch, sizeof scratch, image, LESKOFAR_IMAGE, 0, NULL, 0);
-    expect("a changed byte", answer.refusal == LESKOFAR_NO_SESSION);
+    expect("no operator 0", refused(leskofar_operator(0, text, sizeof text), LESKOFAR_NO_OPERATOR));
+    expect("no operator 15", refused(leskofar_operator(count + 1, NULL, 0), LESKOFAR_NO_OPERATOR));
+    expect("an operator without a buffer", refused(leskofar_operator(count, NULL, 0), LESKOFAR_BUFFER_TOO_SHORT));
+    expect("refused operators leave the text alone", all_are(text, sizeof text, FILL));
 }
 
 int main(void) {
     book_tests();
-    printing_calls();
-    session_calls();
+    print_tests();
+    trace_tests();
+    operator_tests();
     printf("%d passed, %d failed\n", passed, failed);
     return failed != 0;
 }

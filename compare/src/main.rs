@@ -7,6 +7,9 @@ mod bench;
 mod book;
 mod library;
 mod made_books;
+mod made_terms;
+mod printing;
+mod shapes;
 mod tally;
 
 use std::process::ExitCode;
@@ -18,6 +21,7 @@ fn main() -> ExitCode {
     }
     let mut tally = tally::Tally::default();
     book::run(&mut tally);
+    printing::run(&mut tally);
     if tally.close() {
         ExitCode::SUCCESS
     } else {

@@ -1,6 +1,8 @@
-//! Counts groups of comparisons, and how often each refusal was met.
+//! Counts groups of comparisons, and how often each refusal and each form of
+//! input was met.
 
 use std::collections::BTreeMap;
+use std::fmt::Display;
 
 #[derive(Default)]
 pub struct Tally {
@@ -30,19 +32,20 @@ impl Tally {
     }
 }
 
-/// How often each answer was met; 0 is an accepted call.
+/// How often each answer, or each form of input, was met. An answer is 0 for an
+/// accepted call, else the number of the refusal.
 #[derive(Default)]
-pub struct Met(BTreeMap<u32, usize>);
+pub struct Met<K = u32>(BTreeMap<K, usize>);
 
-impl Met {
-    pub fn add(&mut self, answer: u32) {
-        *self.0.entry(answer).or_default() += 1;
+impl<K: Copy + Display + Ord> Met<K> {
+    pub fn add(&mut self, key: K) {
+        *self.0.entry(key).or_default() += 1;
     }
 
-    /// Fails if one of the answers was never met.
-    pub fn all_of(&self, answers: &[u32]) -> Result<String, String> {
-        match answers.iter().find(|answer| !self.0.contains_key(answer)) {
-            Some(answer) => Err(format!("answer {answer} was never met")),
+    /// Fails if one of them was never met.
+    pub fn all_of(&self, keys: &[K]) -> Result<String, String> {
+        match keys.iter().find(|key| !self.0.contains_key(key)) {
+            Some(key) => Err(format!("{key} was never met")),
             None => Ok(self.said()),
         }
     }
@@ -52,7 +55,7 @@ impl Met {
         let each: Vec<String> = self
             .0
             .iter()
-            .map(|(answer, times)| format!("{answer}: {times}"))
+            .map(|(key, times)| format!("{key}: {times}"))
             .collect();
         format!("{total} compared ({})", each.join(", "))
     }

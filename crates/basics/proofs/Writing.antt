@@ -7,7 +7,7 @@ use mathlib.Core.List.{List, [], _∷_}
 use lib.ListN.{length, take, getD, set, replicate, length-replicate, getD-replicate}
 use Rattle.basics.specs.Text.{Text}
 use Rattle.basics.specs.Buffer.{overlay}
-use Rattle.basics.specs.Write.{MOST, spaceByte, Wrote, WroteSpaces}
+use Rattle.basics.specs.Write.{MOST, Wrote, WroteRepeat}
 
 pub put-some : (b : ℕ) (o : List ℕ) → 0 < length o → Wrote (b ∷ []) o (set o 0 b) 1
 unfolding overlay
@@ -50,22 +50,22 @@ clipped (x ∷ t) (y ∷ o) (suc i) h = rw (clipped t o i (omega arith))
 pub begun-all : (t : Text) (o : List ℕ) {o1 : List ℕ} (i r : ℕ) → Begun t i o o1 → min (length t) (length o) ≤ i → r ≡ min (length t) MOST → Wrote t o o1 r
 begun-all t o i r e h c = record { counted = c; shown = e ∙ clipped t o i h }
 
--- o1 has the first i of n spaces, for every count that n stands for
-abbrev pub BegunSpaces : ℕ → ℕ → (o o1 : List ℕ) → Type 0
-BegunSpaces n i o o1 = (count : ℕ) → n ≡ min count MOST → Begun (replicate count spaceByte) i o o1
+-- o1 has the first i of n bytes, for every count that n stands for
+abbrev pub BegunRepeat : (b n i : ℕ) → (o o1 : List ℕ) → Type 0
+BegunRepeat b n i o o1 = (count : ℕ) → n ≡ min count MOST → Begun (replicate count b) i o o1
 
-pub spaces-begun : (n : ℕ) (o : List ℕ) → BegunSpaces n 0 o o
-spaces-begun n o count e = begun (replicate count spaceByte) o
+pub repeat-begun : (b n : ℕ) (o : List ℕ) → BegunRepeat b n 0 o o
+repeat-begun b n o count e = begun (replicate count b) o
 
-pub spaces-more : (n : ℕ) (o : List ℕ) {o1 : List ℕ} (i : ℕ) → BegunSpaces n i o o1 → i < n → i < length o → BegunSpaces n (i + 1) o (set o1 i spaceByte)
-spaces-more n o {o1} i b h g count e =
-    let s : getD {A = ℕ} (replicate count spaceByte) i 0 ≡ spaceByte = getD-replicate count i spaceByte 0 (omega arith) in
-    rw s at (begun-more (replicate count spaceByte) o i (b count e) (omega (arith, length-replicate {A = ℕ} count spaceByte)) g)
+pub repeat-more : (b n : ℕ) (o : List ℕ) {o1 : List ℕ} (i : ℕ) → BegunRepeat b n i o o1 → i < n → i < length o → BegunRepeat b n (i + 1) o (set o1 i b)
+repeat-more b n o {o1} i w h g count e =
+    let s : getD {A = ℕ} (replicate count b) i 0 ≡ b = getD-replicate count i b 0 (omega arith) in
+    rw s at (begun-more (replicate count b) o i (w count e) (omega (arith, length-replicate {A = ℕ} count b)) g)
 
-pub spaces-all : (n : ℕ) (o : List ℕ) {o1 : List ℕ} (i : ℕ) → BegunSpaces n i o o1 → length o < MOST + 1 → min n (length o) ≤ i → WroteSpaces n o o1 n
-spaces-all n o {o1} i b short h = record { spaces = whole }
+pub repeat-all : (b n : ℕ) (o : List ℕ) {o1 : List ℕ} (i : ℕ) → BegunRepeat b n i o o1 → length o < MOST + 1 → min n (length o) ≤ i → WroteRepeat b n o o1 n
+repeat-all b n o {o1} i w short h = record { text = whole }
   where
-    whole : (count : ℕ) → n ≡ min count MOST → Wrote (replicate count spaceByte) o o1 n
+    whole : (count : ℕ) → n ≡ min count MOST → Wrote (replicate count b) o o1 n
     whole count e =
-        begun-all (replicate count spaceByte) o i n (b count e)
-        (omega (arith, length-replicate {A = ℕ} count spaceByte)) (rw length-replicate e)
+        begun-all (replicate count b) o i n (w count e)
+        (omega (arith, length-replicate {A = ℕ} count b)) (rw length-replicate e)

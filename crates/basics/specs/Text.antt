@@ -18,6 +18,9 @@ ascii (String._∷_ c s) = code c ∷ ascii s
 abbrev pub newline : ℕ
 newline = 0x0A
 
+abbrev pub spaceByte : ℕ
+spaceByte = 0x20
+
 -- the same bytes
 unfoldable pub same : Text → Text → Bool
 same [] [] = true

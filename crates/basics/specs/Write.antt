@@ -15,12 +15,9 @@ pub record Wrote (t : Text) (o o' : List ℕ) (r : ℕ) : Type 0 where
   pub counted : r ≡ min (length t) MOST
   pub shown : o' ≡ overlay t o
 
-abbrev pub spaceByte : ℕ
-spaceByte = 0x20
-
--- the same of n spaces, where n may have stayed at MOST: for every count of them that n stands for
-pub record WroteSpaces (n : ℕ) (o o' : List ℕ) (r : ℕ) : Type 0 where
-  pub spaces : (count : ℕ) → n ≡ min count MOST → Wrote (replicate count spaceByte) o o' r
+-- the same of n times the byte b, where n may have stayed at MOST: for every count that n stands for
+pub record WroteRepeat (b n : ℕ) (o o' : List ℕ) (r : ℕ) : Type 0 where
+  pub text : (count : ℕ) → n ≡ min count MOST → Wrote (replicate count b) o o' r
 
 -- the text written over a buffer from a place on, as far as the buffer goes
 unfoldable pub overlayAt : ℕ → Text → List ℕ → List ℕ

@@ -11,5 +11,6 @@ pub use write::MOST;
 pub use write::clip;
 pub use write::put;
 pub use write::put_all;
+pub use write::repeat;
 pub use write::spaces;
 pub use write::sum;

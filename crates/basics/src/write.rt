@@ -2,7 +2,8 @@
 ghost use mathlib.Core.Path.{_≡_};
 ghost use mathlib.Core.List.{[], _∷_};
 ghost use Prim.Native.Nat.{_+_, min};
-ghost use Rattle.basics.specs.Write.{MOST, Wrote, WroteSpaces};
+ghost use Rattle.basics.specs.Text.{spaceByte};
+ghost use Rattle.basics.specs.Write.{MOST, Wrote, WroteRepeat};
 
 // The largest length, at which a longer one stays.
 pub const MOST: usize = 0xffff_ffff_ffff_ffff;
@@ -45,15 +46,22 @@ pub fn put_all(text: &[u8], out: &mut [u8]) -> usize
     whole
 }
 
-// Writes n spaces. Those behind the buffer's end are not counted one by one.
-pub fn spaces(n: usize, out: &mut [u8]) -> usize
-    ensures { λ r. ⌜ WroteSpaces n (now (out .entry)) (now (out .exit)) r ⌝ }
+// Writes a byte n times. What is behind the buffer's end is not counted one by one.
+pub fn repeat(b: u8, n: usize, out: &mut [u8]) -> usize
+    ensures { λ r. ⌜ WroteRepeat b n (now (out .entry)) (now (out .exit)) r ⌝ }
 {
     let end = clip(n, out.len());
     let mut at = 0;
     while at < end {
-        out[at] = b' ';
+        out[at] = b;
         at += 1;
     }
     n
+}
+
+// Writes n spaces.
+pub fn spaces(n: usize, out: &mut [u8]) -> usize
+    ensures { λ r. ⌜ WroteRepeat spaceByte n (now (out .entry)) (now (out .exit)) r ⌝ }
+{
+    repeat(b' ', n, out)
 }

@@ -46,6 +46,8 @@ pub const FUNCTION_TYPE: usize = 1;
 
 pub const FUNCTION_INPUTS: usize = 2;
 
+pub const FUNCTION_INPUTS_COUNT: usize = 3;
+
 pub const FUNCTION_EXPLAINED_BY: usize = 4;
 
 pub const AXIOM_TERM: usize = 0;
@@ -100,6 +102,8 @@ pub const LET_BODY: usize = 3;
 pub const QUANTIFIER_UNIVERSAL: usize = 1;
 
 pub const QUANTIFIER_CONSTANTS: usize = 2;
+
+pub const QUANTIFIER_CONSTANTS_COUNT: usize = 3;
 
 pub const QUANTIFIER_PATTERNS: usize = 4;
 

@@ -5,6 +5,7 @@ use mathlib.Core.Path.{_≡_, refl, sym, ap, _∙_, subst}
 use mathlib.Core.List.{List, [], _∷_, _++_, append-assoc, append-nil}
 use lib.ListN.{length, take, set, length-set}
 use lib.Seq.{take-suc-set}
+use Rattle.basics.proofs.All.{All, end, more}
 use Rattle.book.specs.Book.{Book, contexts, size, field}
 use Rattle.book.specs.Program.{Program, nodeAt, pathUp, path, depth}
 use Rattle.book.specs.Decode.{program}
@@ -81,3 +82,14 @@ climbing-more {b} {node} {nodes} {depth} {n} r P h c e =
 pub climbing-done : {b : Book} {node : ℕ} {nodes : List ℕ} {depth n : ℕ} → n ≡ 0 → Climbing b node nodes depth n → take depth nodes ≡ path (program b) node
 unfolding path pathUp
 climbing-done {b} {node} {nodes} {depth} e c = sym (append-nil (take depth nodes)) ∙ (rw e at (c .found))
+
+-- the nodes of a path are below the root, and none is larger than its first
+up-below : (p : Program) → ((n : ℕ) → nodeAt p (suc n) .parent ≤ n) → (m fuel n : ℕ) → n ≤ m → All (λ x. (0 < x) × (x ≤ m)) (pathUp p fuel n)
+unfolding pathUp
+up-below p parents m zero n h = end
+up-below p parents m (suc fuel) zero h = end
+up-below p parents m (suc fuel) (suc n) h = more {a = suc n} (omega arith, h) (up-below p parents m fuel (nodeAt p (suc n) .parent) (omega (arith, parents n)))
+
+pub path-below : (b : Book) → Promise b → (node : ℕ) → All (λ x. (0 < x) × (x ≤ node)) (path (program b) node)
+unfolding path
+path-below b P node = up-below (program b) (parent-below b P) node node node (omega arith)

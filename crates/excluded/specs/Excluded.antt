@@ -1,4 +1,4 @@
--- A set of constants, by their numbers, in 32 bytes: a bit for each.
+-- A set of constants, by their numbers: a bit for each.
 use Prim.Native.Nat.{ℕ, _/_, _%_, _<_}
 use mathlib.Core.Path.{_≡_}
 use mathlib.Core.Bool.{Bool, _||_}
@@ -9,6 +9,10 @@ use Rattle.basics.specs.Lists.{member}
 use Rattle.book.specs.Book.{Book, entries}
 use Rattle.book.specs.Decode.{constantOf}
 use Rattle.rsolver.specs.REngine.{withConstants}
+
+-- the set's bytes
+abbrev pub setSize : ℕ
+setSize = 32
 
 -- what each bit of a byte counts
 abbrev pub powers : List ℕ
@@ -25,12 +29,12 @@ isExcluded set v = hasBit (getD set (v / 8) 0) (v % 8)
 
 -- the set holds the constants of the list
 pub record Excludes (set exclude : List ℕ) : Type 0 where
-  pub long : length set ≡ 32
+  pub long : length set ≡ setSize
   pub same : (v : ℕ) → v < 256 → isExcluded set v ≡ member v exclude
 
 -- the set with one more
 pub record Joined (set set' : List ℕ) (v : ℕ) : Type 0 where
-  pub long : length set' ≡ 32
+  pub long : length set' ≡ setSize
   pub joins : (w : ℕ) → w < 256 → isExcluded set' w ≡ (eqb w v || isExcluded set w)
 
 -- exclude with the constants in a range of lists

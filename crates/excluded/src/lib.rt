@@ -6,7 +6,7 @@ ghost use Prim.Native.Nat.{_+_, _<_};
 ghost use lib.ListN.{length};
 ghost use Rattle.book.specs.Book.{constants, size};
 ghost use Rattle.book_test.specs.Promise.{Promise, Range};
-ghost use Rattle.excluded.specs.Excluded.{power, hasBit, isExcluded, Excludes, Joined, Ranged};
+ghost use Rattle.excluded.specs.Excluded.{setSize, power, hasBit, isExcluded, Excludes, Joined, Ranged};
 use book::field;
 use book::format::LISTED;
 use book::format::LISTS;
@@ -25,7 +25,7 @@ pub fn nothing() -> [u8; SIZE]
 
 // Constant v is in the set.
 pub fn has(set: &[u8; SIZE], v: usize) -> bool
-    requires { ⌜ (length (now set) ≡ 32) × (v < 256) ⌝ }
+    requires { ⌜ (length (now set) ≡ setSize) × (v < 256) ⌝ }
     ensures { λ r. ⌜ r ≡ isExcluded (now (set .entry)) v ⌝ }
 {
     set[v / 8] / POWERS[v % 8] % 2 == 1
@@ -41,7 +41,7 @@ fn with_bit(byte: u8, i: usize) -> u8
 
 // The set with constant v.
 pub fn with(set: &[u8; SIZE], v: usize) -> [u8; SIZE]
-    requires { ⌜ (length (now set) ≡ 32) × (v < 256) ⌝ }
+    requires { ⌜ (length (now set) ≡ setSize) × (v < 256) ⌝ }
     ensures { λ r. ⌜ Joined (now (set .entry)) r v ⌝ }
 {
     let mut all = *set;
@@ -54,7 +54,7 @@ pub fn with(set: &[u8; SIZE], v: usize) -> [u8; SIZE]
 
 // The set with the constants in a range of lists.
 pub fn with_constants(book: &[u8], start: usize, count: usize, set: &[u8; SIZE]) -> [u8; SIZE]
-    requires { ⌜ Promise (now book) × Range (now book) (size (now book) constants) start count × (length (now set) ≡ 32) ⌝ }
+    requires { ⌜ Promise (now book) × Range (now book) (size (now book) constants) start count × (length (now set) ≡ setSize) ⌝ }
     ensures { λ r. ⌜ Ranged (now (book .entry)) start count (now (set .entry)) r ⌝ }
 {
     let mut all = *set;

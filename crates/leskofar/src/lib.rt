@@ -6,6 +6,13 @@ ghost use Rattle.leskofar.specs.Exports.{refusalOf};
 use book::Refusal;
 use book_test::Tested;
 
+mod print_calls;
+
+pub use print_calls::Told;
+pub use print_calls::leskofar_operator;
+pub use print_calls::leskofar_print;
+pub use print_calls::leskofar_trace;
+
 // The answer of an accepted call where a refusal's number would stand.
 const ACCEPTED: u32 = 0;
 

@@ -1,7 +1,10 @@
-// SmtEngines.dfy: the commands, each written as a line. What asserts is in the crate assumptions, above the printers.
+// SmtEngines.dfy: the commands, each written as a line.
+mod assumptions;
 mod lines;
-mod names;
+mod parts;
 
+pub use assumptions::assume;
+pub use assumptions::assume_not;
 pub use lines::check_sat;
 pub use lines::declare_constant;
 pub use lines::declare_function;

@@ -7,15 +7,14 @@ ghost use Rattle.book.specs.Decode.{constantOf, functionOf, literalOf};
 ghost use Rattle.book_test.specs.Promise.{Promise, GoodLiteral};
 ghost use Rattle.smt_engines.specs.Command.{Push, Pop, CheckSat, GetModel, DeclareSort, DeclareConstant, DeclareFunction, DeclareLiteral, script};
 ghost use Rattle.smt_engines.specs.Written.{typeDeclOf, signatureText};
-use super::names::put_literal_name;
-use super::names::put_type;
-use super::names::put_types;
+use super::parts::put_literal_name;
+use super::parts::put_type;
+use super::parts::put_types;
 use basics::put_at;
 use book::field;
 use book::format::CONSTANT_NAME;
 use book::format::CONSTANT_TYPE;
 use book::format::CONSTANTS;
-use book::format::FUNCTION_INPUTS;
 use book::format::FUNCTION_NAME;
 use book::format::FUNCTION_TYPE;
 use book::format::FUNCTIONS;
@@ -79,14 +78,7 @@ fn put_signature(book: &[u8], k: usize, at: usize, out: &mut [u8]) -> usize
     let head = put_at(b"(declare-fun ", at, out);
     let name = put_at(named(book, FUNCTIONS, k, FUNCTION_NAME), head, out);
     let space = put_at(b" ", name, out);
-    let start = field(book, FUNCTIONS, k, FUNCTION_INPUTS);
-    put_types(
-        book,
-        start,
-        field(book, FUNCTIONS, k, FUNCTION_INPUTS + 1),
-        space,
-        out,
-    )
+    put_types(book, k, space, out)
 }
 
 // Function k.

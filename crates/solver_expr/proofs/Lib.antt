@@ -1,2 +1,7 @@
 pub mod Clean
 pub mod Joined
+pub mod Readers
+mod Lower
+mod Tag
+mod Values
+pub mod Answers

@@ -2,3 +2,4 @@ pub mod SolverExpr
 pub mod Lowering
 pub mod Operators
 pub mod Print
+pub mod Values

@@ -1,5 +1,6 @@
 -- The calls print and operator: refusals in their order, the text, and what the buffers hold afterwards.
 use Prim.Native.Nat.{ℕ}
+use mathlib.Core.Path.{_≡_}
 use mathlib.Core.List.{List}
 use mathlib.Core.Option.{Option, none, some}
 use lib.Dec.{leb, ltb}
@@ -34,6 +35,11 @@ itself text = text
 unfoldable pub printed : Outcome Text → (text scratch : List ℕ) → Printed
 printed o text scratch =
     record { answer = mapOutcome length o; text = bufferAfter o itself text; scratch = scratchAfter scratch }
+
+-- what is answered for an outcome, and left in a text buffer t
+pub record Answered (o : Outcome Text) (r : code.Printed) (t t' : List ℕ) : Type 0 where
+  pub answer : printedValue r ≡ mapOutcome length o
+  pub text : t' ≡ bufferAfter o itself t
 
 -- a text that fills its buffer fits
 unfoldable pub fitting : (room : ℕ) → Text → Outcome Text

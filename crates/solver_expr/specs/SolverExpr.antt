@@ -4,7 +4,7 @@ use mathlib.Core.List.{List, [], _∷_, _++_}
 use mathlib.Core.Bool.{Bool, true, false}
 use lib.IntN.{ℤ}
 use lib.ListN.{replicate}
-use Rattle.basics.specs.Text.{Text, ascii, newline, if_then_else_}
+use Rattle.basics.specs.Text.{Text, ascii, newline, spaceByte, if_then_else_}
 use Rattle.basics.specs.Basics.{int2String}
 use Rattle.book.specs.SType.{SType, SBool, SInt, SUserType, SConstant}
 
@@ -45,9 +45,6 @@ pub record SExprPrintConfig : Type 0 where
 -- the default argument of ToString
 unfoldable pub flat : SExprPrintConfig
 flat = record { newlines = false; indent = 0 }
-
-abbrev pub spaceByte : ℕ
-spaceByte = 0x20
 
 unfoldable pub extraIndent : SExprPrintConfig → ℕ → SExprPrintConfig
 extraIndent c n = if c .newlines then record { newlines = true; indent = c .indent + n } else c

@@ -1,8 +1,113 @@
-// SolverExpr.dfy: S-expressions, lowering, layouts; operator names. The definitions are in specs/; the code comes with printing.
+// SolverExpr.dfy and the first part of RSolver.dfy: S-expressions over the book, and the lowering of terms. Nothing is written here.
+ghost use mathlib.Core.Path.{_≡_};
+ghost use Rattle.book.specs.Book.{constants};
+ghost use Rattle.solver_expr.specs.Values.{Ready, IsBoolean, IsId, IsAppl, IsNegation};
 use book::Refusal;
+use book::field;
+use book::format::CONSTANT_NAME;
+use book::format::CONSTANTS;
+
+mod lowering;
+
+pub use lowering::to_sexpr;
+pub use lowering::type_to_sexpr;
 
 // The answer of a printing call: the text's length.
 pub enum Printed {
     Text(usize),
     Refused(Refusal),
+}
+
+// The words of lowered terms.
+pub enum Word {
+    False,
+    True,
+    Not,
+    Ite,
+    Let,
+    Forall,
+    Exists,
+    Bang,
+    Pattern,
+    Bool,
+    Int,
+}
+
+// The string of S(string): a word, a name of the book, an Integer's 64 bits, a literal's term, or the number of %tag.
+pub enum SName {
+    Word(Word),
+    Name(usize),
+    Integer(u64),
+    Literal(usize),
+    Tag,
+}
+
+// The seq of PP(seq), by the record that it is made of: a term, or for BoundVar a constant, for Terms a pattern, for Types a function.
+pub enum SRow {
+    Negation(usize),
+    Appl(usize, usize),
+    Ite(usize),
+    Let(usize),
+    Bindings(usize),
+    Binding(usize),
+    Quantifier(usize),
+    BoundVars(usize),
+    BoundVar(usize),
+    Annotated(usize),
+    Terms(usize),
+    Types(usize),
+}
+
+// pun: solver expression. There is no heap: a value says which S-expression over the book is meant.
+pub enum SExpr {
+    S(SName),
+    PP(SRow),
+}
+
+impl SExpr {
+    pub const FALSE: [u8; 5] = *b"false";
+
+    pub const TRUE: [u8; 4] = *b"true";
+
+    pub const EQ: [u8; 1] = *b"=";
+
+    pub const NOT: [u8; 3] = *b"not";
+
+    pub const AND: [u8; 3] = *b"and";
+
+    pub fn boolean(b: bool) -> SExpr
+        ensures { λ r. ⌜ IsBoolean b r ⌝ }
+    {
+        if b {
+            SExpr::S(SName::Word(Word::True))
+        } else {
+            SExpr::S(SName::Word(Word::False))
+        }
+    }
+
+    // Id(x)
+    pub fn id(book: &[u8], v: usize) -> SExpr
+        requires { ⌜ Ready (now book) constants v ⌝ }
+        ensures { λ r. ⌜ IsId (now (book .entry)) v r ⌝ }
+    {
+        SExpr::S(SName::Name(field(book, CONSTANTS, v, CONSTANT_NAME)))
+    }
+
+    // FuncAppl(op, args), op a name, args the `count` arguments of term t
+    pub fn func_appl(op: usize, t: usize, count: usize) -> SExpr
+        ensures { λ r. ⌜ IsAppl op t count r ⌝ }
+    {
+        if count == 0 {
+            SExpr::S(SName::Name(op))
+        } else {
+            SExpr::PP(SRow::Appl(op, t))
+        }
+    }
+
+    // Negation(e), e the S-expression of term t
+    pub fn negation(t: usize) -> SExpr
+        ensures { λ r. ⌜ IsNegation t r ⌝ }
+    {
+        SExpr::PP(SRow::Negation(t))
+    }
 }

@@ -62,7 +62,7 @@ module _ (p : Program) (G : Good p) where
   standing-within [] = within-zeros levelCount 0
   standing-within (n ∷ ns) = grown-within (grown-at n ns) (standing-within ns)
 
-  missing-above : (n : ℕ) (ns : List ℕ) → standing p (n ∷ ns) .missing ≡ false → standing p ns .missing ≡ false
+  pub missing-above : (n : ℕ) (ns : List ℕ) → standing p (n ∷ ns) .missing ≡ false → standing p ns .missing ≡ false
   unfolding standing enter push _⨟_ settle
   missing-above n ns e = missing-down (settled n) (push n (standing p ns)) e
 

@@ -1,14 +1,11 @@
 -- The answer of the call trace: the first refusal that holds, or the text.
-use Prim.Native.Nat.{ℕ, _≤_, _<_, min}
-use native.Mathlib.Omega.{arith}
+use Prim.Native.Nat.{ℕ, _≤_, _<_}
 use mathlib.Core.Path.{_≡_, sym}
 use mathlib.Core.List.{List}
 use lib.ListN.{length}
 use borrow.Author.Tests.{lt-ltb, le-ltb}
 use Rattle.basics.specs.Text.{Text}
-use Rattle.basics.specs.Outcome.{Outcome, refused, accepted, refuse, _>>_, mapOutcome}
-use Rattle.basics.specs.Buffer.{bufferAfter}
-use Rattle.basics.specs.Write.{MOST, Wrote}
+use Rattle.basics.specs.Outcome.{Outcome, refused, accepted, refuse, _>>_}
 use Rattle.book.specs.Refusal.{number}
 use Rattle.book.specs.declared.Refusal.{Refusal}
 use Rattle.book.specs.Book.{Book, contexts, size}
@@ -18,11 +15,10 @@ use Rattle.book_test.specs.Promise.{Promise}
 use Rattle.book_test.specs.declared.Tested.the-variants as tested
 use Rattle.book_test.proofs.Outcomes.{ready-passed}
 use Rattle.book_test.proofs.Promise.{promise}
-use Rattle.solver_expr.specs.Print.{fitting, printed, printedValue}
+use Rattle.solver_expr.specs.Print.{fitting, printed, printedValue, Answered}
 use Rattle.solver_expr.specs.declared.Printed.{Printed}
-use Rattle.solver_expr.specs.declared.Printed.the-variants as answer
 use Rattle.rsolver.specs.Trace.{printTrace, traceText, traceCall}
-use Rattle.traces.specs.Call.{traceIn, Answered}
+use Rattle.traces.specs.Call.{traceIn}
 
 module _ (b : Book) (node : ℕ) where
   pub not-here : (room : ℕ) → size b contexts < node → traceIn b node room ≡ refused 7
@@ -37,18 +33,6 @@ module _ (b : Book) (node : ℕ) where
     pub fits : length (printTrace (program b) node) ≤ room → traceIn b node room ≡ accepted (printTrace (program b) node)
     unfolding traceIn fitting refuse _>>_
     fits h = rw (le-ltb (size b contexts) node here, le-ltb room (length (printTrace (program b) node)) h)
-
-pub answered-refused : {o : Outcome Text} (ref : Refusal) (t : List ℕ) → o ≡ refused (number ref) → Answered o (answer.Refused ref) t t
-unfolding printedValue mapOutcome bufferAfter
-answered-refused ref t e = record { answer = rw e; text = rw e }
-
-pub answered-text : {o : Outcome Text} {x : Text} {t t' : List ℕ} {r s : ℕ} → o ≡ accepted x → r ≡ length x → Wrote x t t' s → Answered o (answer.Text r) t t'
-unfolding printedValue mapOutcome bufferAfter
-answered-text e l w = record { answer = rw (e, l); text = rw e (w .shown) }
-
--- a text that was measured is shorter than the largest number, so its length is known
-pub measured : {n r room : ℕ} → r ≡ min n MOST → r ≤ room → room < MOST → r ≡ n
-measured e h k = omega arith
 
 -- behind the book test
 pub outcome-refused : (b : Book) (ref : Refusal) (s : List ℕ) (node room : ℕ) → testedValue (tested.Refused ref) ≡ bookTestCall b s .answer → traceText (length s) b node room ≡ refused (number ref)

@@ -3,8 +3,8 @@ use Prim.Native.Nat.{ℕ, zero, suc, _+_, _-_, _≤_, _<_}
 use native.Mathlib.Omega.{arith}
 use mathlib.Core.Path.{_≡_, refl, sym, ap, _∙_}
 use mathlib.Core.List.{List, [], _∷_, _++_}
-use Rattle.basics.specs.Text.{ascii, newline}
-use Rattle.basics.specs.Write.{Wrote, WroteSpaces}
+use Rattle.basics.specs.Text.{ascii, newline, spaceByte}
+use Rattle.basics.specs.Write.{Wrote, WroteRepeat}
 use Rattle.basics.proofs.Laws.{wrote-none, wrote-as}
 use Rattle.book.specs.Book.{Book, letters, names, contexts, size, field, nameText}
 use Rattle.book.specs.Laid.{Laid, Holds}
@@ -53,5 +53,5 @@ module _ (b : Book) (node : ℕ) (here : IsBelow b node) (trace : ℕ) (is : tra
       (P .letters-laid, record { laid = P .names-laid; here = l; within = omega arith }, P .name (trace - 1) l .ends)
 
 -- two spaces
-pub two-spaces : {o o1 : List ℕ} {r : ℕ} → WroteSpaces 2 o o1 r → Wrote (ascii "  ") o o1 r
-two-spaces w = w .spaces 2 refl
+pub two-spaces : {o o1 : List ℕ} {r : ℕ} → WroteRepeat spaceByte 2 o o1 r → Wrote (ascii "  ") o o1 r
+two-spaces w = w .text 2 refl

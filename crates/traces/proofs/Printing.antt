@@ -6,26 +6,15 @@ use mathlib.Core.List.{List, [], _∷_, _++_}
 use lib.ListN.{length, getD, take, drop, drop-of-length-le, length-take}
 use lib.Seq.{drop-cons, getD-take}
 use Rattle.basics.specs.Write.{MOST, Wrote}
-use Rattle.basics.proofs.All.{All, end, more, all-at}
+use Rattle.basics.proofs.All.{all-at}
 use Rattle.basics.proofs.Laws.{joined, wrote-none, wrote-then, wrote-as}
 use Rattle.book.specs.Book.{Book, contexts, size, depthMost}
-use Rattle.book.specs.Program.{Program, nodeAt, pathUp, path}
+use Rattle.book.specs.Program.{nodeAt, path}
 use Rattle.book.specs.Decode.{program}
 use Rattle.book_test.specs.Promise.{Promise}
-use Rattle.book_test.proofs.EveryTerm.{parent-below}
 use Rattle.contexts.specs.Path.{IsBelow}
+use Rattle.contexts.proofs.Climb.{path-below}
 use Rattle.rsolver.specs.Trace.{traceLine, traceOf, printTrace}
-
--- the nodes of a path are below the root, and none is larger than its first
-up-below : (p : Program) → ((n : ℕ) → nodeAt p (suc n) .parent ≤ n) → (m fuel n : ℕ) → n ≤ m → All (λ x. (0 < x) × (x ≤ m)) (pathUp p fuel n)
-unfolding pathUp
-up-below p parents m zero n h = end
-up-below p parents m (suc fuel) zero h = end
-up-below p parents m (suc fuel) (suc n) h = more {a = suc n} (omega arith, h) (up-below p parents m fuel (nodeAt p (suc n) .parent) (omega (arith, parents n)))
-
-path-below : (b : Book) → Promise b → (node : ℕ) → All (λ x. (0 < x) × (x ≤ node)) (path (program b) node)
-unfolding path
-path-below b P node = up-below (program b) (parent-below b P) node node node (omega arith)
 
 -- The code's path is the first `whole` of its nodes. Written is what those from `depth` on have.
 pub record Printing (b : Book) (nodes : List ℕ) (whole : ℕ) (o o1 : List ℕ) (depth written : ℕ) : Type 0 where

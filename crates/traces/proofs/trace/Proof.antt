@@ -1,6 +1,7 @@
 use Rattle.book_test.specs.BookTest.{testedValue}
 use mathlib.Core.Path.{refl, sym, ap, _∙_}
-use Rattle.traces.proofs.Answers.{answered-refused, outcome-refused, outcome-good, promised, called}
+use Rattle.solver_expr.proofs.Answers.{answered-refused}
+use Rattle.traces.proofs.Answers.{outcome-refused, outcome-good, promised, called}
 use borrow.Author.Needs.{needs}
 use Rattle.traces.proofs.trace.Statement.{statement}
 use Rattle.traces.proofs.trace.Tie as tie

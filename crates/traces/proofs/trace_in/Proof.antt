@@ -1,5 +1,6 @@
 use Rattle.book.specs.Refusal.{number}
-use Rattle.traces.proofs.Answers.{not-here, too-long, fits, answered-refused, answered-text, measured}
+use Rattle.solver_expr.proofs.Answers.{answered-refused, answered-text, measured}
+use Rattle.traces.proofs.Answers.{not-here, too-long, fits}
 use native.Mathlib.Omega.{arith}
 use borrow.Author.Needs.{needs}
 use Rattle.traces.proofs.trace_in.Statement.{statement}

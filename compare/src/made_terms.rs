@@ -1,0 +1,216 @@
+//! Books of terms at the borders of printing, and of terms that nest as deep
+//! as a book can.
+
+use leskofar_reference::book::{kind, Section, BOOL, INT};
+use leskofar_reference::maker::Maker;
+
+const INTEGERS: [i64; 14] = [
+    0,
+    1,
+    -1,
+    9,
+    10,
+    -9,
+    -10,
+    u32::MAX as i64,
+    1 << 32,
+    -(1 << 32),
+    i64::MAX,
+    i64::MIN,
+    i64::MIN + 1,
+    1_000_000_000_000_000_000,
+];
+/// The tag itself, and texts that are not quite it.
+const LITERALS: [&str; 8] = ["", "a", "a:b", "%tag", "%tags", "%ta", "%TAG", "|"];
+
+/// Terms of every kind with what is rare in them: empty names, numbers at
+/// their borders, texts like the tag's, quantifiers without variables and with
+/// every sort of pattern.
+pub fn borders() -> Maker {
+    let mut m = Maker::default();
+    for b in [false, true] {
+        m.boolean(b);
+    }
+    for x in INTEGERS {
+        m.integer(x);
+    }
+    let types = [BOOL, INT, m.user_type("T"), m.user_type("")];
+    for s in LITERALS {
+        for typ in types {
+            m.literal(s, typ);
+        }
+    }
+    let named = types.map(|typ| m.constant("x", typ));
+    let unnamed = types.map(|typ| m.constant("", typ));
+    let tag = m.constant("%tag", INT);
+    for v in [named[0], unnamed[0], tag] {
+        m.id(v);
+    }
+    for op in ["", "and", "%tag"] {
+        for count in 0..3 {
+            let args = ids(&mut m, named[0], count);
+            m.built_in(op, &args);
+        }
+    }
+    for name in ["", "f"] {
+        let f = m.function(name, &[], INT);
+        for count in 0..3 {
+            let args = ids(&mut m, unnamed[0], count);
+            m.apply(f, &args);
+        }
+    }
+    let terms = ids(&mut m, named[0], 3);
+    m.if_then_else(terms[0], terms[1], terms[2]);
+    for v in [named[0], unnamed[0]] {
+        let terms = ids(&mut m, v, 2);
+        m.let_expr(v, terms[0], terms[1]);
+    }
+    add_quantifiers(&mut m, &named, &unnamed);
+    m
+}
+
+/// So many terms that are the constant v.
+fn ids(m: &mut Maker, v: u32, count: usize) -> Vec<u32> {
+    (0..count).map(|_| m.id(v)).collect()
+}
+
+fn add_quantifiers(m: &mut Maker, named: &[u32], unnamed: &[u32]) {
+    let twice = [named[0], named[0]];
+    let empty = m.pattern(&[]);
+    for univ in [false, true] {
+        for vv in [&[], &named[..1], named, unnamed, &twice] {
+            for count in 0..3 {
+                let terms = ids(m, named[1], count);
+                let pattern = m.pattern(&terms);
+                for patterns in [&[][..], &[empty, empty], &[pattern, empty]] {
+                    let body = m.boolean(univ);
+                    m.quantifier(univ, vv, patterns, body);
+                }
+            }
+        }
+    }
+    // Quantifiers without variables, below each other and as parts.
+    let terms = ids(m, named[0], 1);
+    let pattern = m.pattern(&terms);
+    let mut bare = m.integer(-1);
+    for patterns in [&[][..], &[empty], &[pattern]] {
+        bare = m.quantifier(true, &[], patterns, bare);
+    }
+    let args = [bare];
+    let args = [m.built_in("not", &args), m.boolean(true)];
+    m.built_in("or", &args);
+}
+
+/// How a term holds the next one inside it.
+type Step = fn(&mut Nest, u32) -> u32;
+
+struct Nest {
+    maker: Maker,
+    /// Its constant, and range of a list of that constant alone.
+    v: u32,
+    vv: [u32; 2],
+    /// The name of its operator.
+    op: u32,
+    /// The range of a list with an empty pattern alone.
+    patterns: [u32; 2],
+}
+
+impl Nest {
+    fn leaf(&mut self) -> u32 {
+        self.maker.id(self.v)
+    }
+
+    fn appl(&mut self, args: &[u32]) -> u32 {
+        let [start, count] = self.maker.list(args);
+        self.maker.term(kind::BUILT_IN, [self.op, start, count])
+    }
+
+    fn quantifier(&mut self, vv: [u32; 2], patterns: [u32; 2], body: u32) -> u32 {
+        let fields = [1, vv[0], vv[1], patterns[0], patterns[1], body];
+        self.maker.term(kind::QUANTIFIER, fields)
+    }
+}
+
+/// Each shape, with the terms that a step of it adds.
+const STEPS: [(&str, usize, Step); 10] = [
+    ("only arguments", 1, |n, inner| n.appl(&[inner])),
+    ("first arguments", 2, |n, inner| {
+        let leaf = n.leaf();
+        n.appl(&[inner, leaf])
+    }),
+    ("last arguments", 2, |n, inner| {
+        let leaf = n.leaf();
+        n.appl(&[leaf, inner])
+    }),
+    ("guards", 3, |n, inner| {
+        let [thn, els] = [n.leaf(), n.leaf()];
+        n.maker.if_then_else(inner, thn, els)
+    }),
+    ("right sides", 2, |n, inner| {
+        let body = n.leaf();
+        n.maker.let_expr(n.v, inner, body)
+    }),
+    ("let bodies", 2, |n, inner| {
+        let rhs = n.leaf();
+        n.maker.let_expr(n.v, rhs, inner)
+    }),
+    ("quantifier bodies", 1, |n, inner| {
+        n.quantifier(n.vv, [0, 0], inner)
+    }),
+    ("bodies before a pattern", 1, |n, inner| {
+        n.quantifier(n.vv, n.patterns, inner)
+    }),
+    ("bodies without variables", 1, |n, inner| {
+        n.quantifier([0, 0], n.patterns, inner)
+    }),
+    ("pattern terms", 3, |n, inner| {
+        let [body, leaf] = [n.leaf(), n.leaf()];
+        let pattern = n.maker.pattern(&[inner, leaf]);
+        let empty = n.maker.lists[n.patterns[0] as usize];
+        let patterns = n.maker.list(&[pattern, empty]);
+        n.quantifier(n.vv, patterns, body)
+    }),
+];
+
+/// For each shape a book whose last term has all the others inside it, as many
+/// as a book can have.
+pub fn nests() -> Vec<(&'static str, Maker)> {
+    nests_of(Section::Terms.most())
+}
+
+/// The same with so many terms at most.
+pub fn nests_of(most: usize) -> Vec<(&'static str, Maker)> {
+    STEPS
+        .map(|(name, terms, step)| (name, nest(most, terms, step)))
+        .into()
+}
+
+/// A term with so many arguments of so many letters, the last of its book.
+pub fn flat(arguments: usize, letters: usize) -> Maker {
+    let mut m = Maker::default();
+    let v = m.constant(&"v".repeat(letters), INT);
+    let args = ids(&mut m, v, arguments);
+    m.built_in("and", &args);
+    m
+}
+
+fn nest(most: usize, terms: usize, step: Step) -> Maker {
+    let mut maker = Maker::default();
+    let v = maker.constant("v", INT);
+    let vv = maker.list(&[v]);
+    let op = maker.name("and");
+    let empty = maker.pattern(&[]);
+    let patterns = maker.list(&[empty]);
+    let mut n = Nest {
+        maker,
+        v,
+        vv,
+        op,
+        patterns,
+    };
+    let mut inner = n.leaf();
+    while n.maker.terms.len() + terms <= most && n.maker.patterns.len() < Section::Patterns.most() {
+        inner = step(&mut n, inner);
+    }
+    n.maker
+}

@@ -1,0 +1,432 @@
+//! Printing against the reference: the answer, every byte of the text, every
+//! byte behind it, and every scratch byte.
+
+use crate::library::{self, Printed};
+use crate::made_books::{chain, full, good_books};
+use crate::made_terms::{borders, nests};
+use crate::shapes::{visit, SHAPES};
+use crate::tally::{Met, Tally};
+use leskofar_reference::book_test::{check, MOST_DEPTH, SCRATCH_SIZE};
+use leskofar_reference::damage::damaged;
+use leskofar_reference::lower::to_sexpr;
+use leskofar_reference::maker::{sample, small};
+use leskofar_reference::operators::NAMES;
+use leskofar_reference::program::Program;
+use leskofar_reference::random::{Random, HARDLY_EVER, OFTEN, RARELY};
+use leskofar_reference::random_books::{random_book, Counts};
+use leskofar_reference::sexpr::SExprPrintConfig;
+use leskofar_reference::sink::Sink;
+
+/// What a scratch holds before a call.
+const FILL: u8 = 0xA5;
+/// Bytes behind the text buffer that no call may touch.
+const BEHIND: usize = 16;
+const SEED: u64 = 0x7072_696E;
+/// Random terms, each printed in both layouts.
+const RANDOM_TERMS: usize = 100_000;
+/// Terms of one random book.
+const TERMS_OF_A_BOOK: usize = 8;
+/// Random nodes of good and bad books.
+const RANDOM_NODES: usize = 40_000;
+/// Random calls on bad books, or for terms that are not there.
+const REFUSED_CALLS: usize = 40_000;
+/// The usual sizes of random books, and a rare one.
+const SIZES: [usize; 5] = [1, 2, 4, 8, 16];
+const LARGE: usize = 80;
+const INDENTS: [u64; 5] = [0, 1, 7, 1 << 32, u64::MAX];
+const TAGS: [u64; 4] = [0, 7, 1 << 32, u64::MAX];
+/// Flags for a line for each part.
+const FLAGS: [u32; 5] = [1, 7, 256, 1 << 31, u32::MAX];
+const ONE_LINE: u32 = 0;
+/// A text longer than this gets only buffers that are too short.
+const LONGEST: u64 = 1 << 24;
+const SHORT_ROOMS: [usize; 3] = [0, 1, 100];
+/// How much longer than its text a buffer is, at most.
+const LONGER: usize = 9;
+/// Operator codes whose low bytes are those of good ones, and the last.
+const FAR_CODES: [u32; 4] = [1 << 8 | 1, 1 << 16 | 2, 1 << 31 | 3, u32::MAX];
+/// The numbers of the refusals that a call on a book has.
+const ON_A_BOOK: [u32; 9] = [0, 1, 2, 3, 4, 5, 6, 7, 10];
+
+/// A buffer whose every byte differs from its neighbours.
+fn patterned(length: usize) -> Vec<u8> {
+    (0..length).map(|at| (at as u8) | 0x80).collect()
+}
+
+/// What a call leaves.
+#[derive(PartialEq)]
+struct Left {
+    answer: Printed,
+    text: Vec<u8>,
+    scratch: Vec<u8>,
+}
+
+/// Runs a call with a text buffer of `room` bytes and bytes behind it.
+fn left(room: usize, scratch: usize, call: impl FnOnce(&mut [u8], &mut [u8]) -> Printed) -> Left {
+    let mut text = patterned(room + BEHIND);
+    let mut scratch = vec![FILL; scratch];
+    let answer = call(&mut scratch, &mut text[..room]);
+    Left {
+        answer,
+        text,
+        scratch,
+    }
+}
+
+/// The reference's answer, as the library tells it.
+fn told(answer: Result<usize, u32>) -> Printed {
+    match answer {
+        Ok(length) => Printed {
+            refusal: 0,
+            length: length as u64,
+        },
+        Err(refusal) => Printed { refusal, length: 0 },
+    }
+}
+
+/// Compares what both leave; `what` says which call it was.
+fn compare(
+    met: &mut Met,
+    theirs: Left,
+    ours: Left,
+    what: impl FnOnce() -> String,
+) -> Result<(), String> {
+    met.add(theirs.answer.refusal);
+    if ours.answer != theirs.answer {
+        let [ours, theirs] = [ours.answer, theirs.answer];
+        return Err(format!("{ours:?}, expected {theirs:?}, of {}", what()));
+    }
+    if ours != theirs {
+        return Err(format!(
+            "other bytes after {:?}, of {}",
+            ours.answer,
+            what()
+        ));
+    }
+    Ok(())
+}
+
+/// A call of print but for its buffers.
+#[derive(Clone, Copy, Debug)]
+struct Print<'b> {
+    book: &'b [u8],
+    term: u32,
+    tag: u64,
+    newlines: u32,
+    indent: u64,
+}
+
+impl Print<'_> {
+    fn compare(self, room: usize, scratch: usize, met: &mut Met) -> Result<(), String> {
+        let Print {
+            book,
+            term,
+            tag,
+            newlines,
+            indent,
+        } = self;
+        let theirs = left(room, scratch, |scratch, text| {
+            let newlines = newlines != 0;
+            told(leskofar_reference::print(
+                book, scratch, term, tag, newlines, indent, text,
+            ))
+        });
+        let ours = left(room, scratch, |scratch, text| {
+            library::print(book, scratch, term, tag, newlines, indent, text)
+        });
+        compare(met, theirs, ours, || {
+            format!("buffer {room}, scratch {scratch}, {self:?}")
+        })
+    }
+
+    /// The length of the text, as the reference measures it.
+    fn length(self, program: &Program) -> u64 {
+        let config = SExprPrintConfig {
+            newlines: self.newlines != 0,
+            indent: self.indent,
+        };
+        let mut sink = Sink::new(0);
+        to_sexpr(program, self.term as usize, self.tag).print(config, &mut sink);
+        sink.length()
+    }
+
+    /// With buffers exactly long enough, one byte less, empty and longer.
+    fn compare_around(self, length: u64, longer: usize, met: &mut Met) -> Result<(), String> {
+        let fitting = length as usize;
+        let around = [fitting, fitting - 1, 0, fitting + 1 + longer];
+        let rooms = if length > LONGEST {
+            &SHORT_ROOMS[..]
+        } else {
+            &around
+        };
+        rooms
+            .iter()
+            .try_for_each(|room| self.compare(*room, SCRATCH_SIZE, met))
+    }
+}
+
+/// A call of trace but for its buffers.
+fn compare_trace(
+    book: &[u8],
+    node: u32,
+    room: usize,
+    scratch: usize,
+    met: &mut Met,
+) -> Result<(), String> {
+    let theirs = left(room, scratch, |scratch, text| {
+        told(leskofar_reference::trace(book, scratch, node, text))
+    });
+    let ours = left(room, scratch, |scratch, text| {
+        library::trace(book, scratch, node, text)
+    });
+    compare(met, theirs, ours, || {
+        format!("trace of node {node}, buffer {room}, scratch {scratch}, of {book:?}")
+    })
+}
+
+/// A scratch that is hardly ever too short.
+fn scratch_length(random: &mut Random) -> usize {
+    if random.one_in(HARDLY_EVER) {
+        SCRATCH_SIZE - 1
+    } else {
+        SCRATCH_SIZE + random.below(LONGER)
+    }
+}
+
+/// A book that is damaged at times.
+fn any_book(random: &mut Random) -> Vec<u8> {
+    let size = random.pick(&SIZES);
+    let counts = Counts::random(random, size);
+    let m = random_book(random, counts);
+    if random.one_in(OFTEN) {
+        m.book()
+    } else {
+        damaged(random, &m)
+    }
+}
+
+/// A term of a book, more often one of the last, which have others inside.
+fn any_term(random: &mut Random, count: usize) -> u32 {
+    let below_last = random.below(count) * random.below(count) / count;
+    (count - 1 - below_last) as u32
+}
+
+/// A number within a count, the first ones behind it, or a huge one.
+fn any_number(random: &mut Random, count: usize) -> u32 {
+    if random.one_in(RARELY) {
+        random.pick(&[count as u32, count as u32 + 1, 1 << 31, u32::MAX])
+    } else {
+        random.up_to(count) as u32
+    }
+}
+
+/// Every term of a book, in every layout.
+fn compare_terms(book: &[u8], met: &mut Met) -> Result<(), String> {
+    let program = check(book).map_err(|refusal| format!("refused {refusal}"))?;
+    for term in 0..program.terms.len() as u32 {
+        for tag in TAGS {
+            for indent in INDENTS {
+                for newlines in [ONE_LINE, FLAGS[0]] {
+                    let call = Print {
+                        book,
+                        term,
+                        tag,
+                        newlines,
+                        indent,
+                    };
+                    let length = call.length(&program);
+                    call.compare_around(length, 0, met)?;
+                }
+            }
+        }
+    }
+    Ok(())
+}
+
+fn print_groups(tally: &mut Tally) {
+    tally.group("print, terms at the borders", || {
+        let mut met = Met::default();
+        for m in [borders(), full(), sample().maker, small().maker] {
+            compare_terms(&m.book(), &mut met)?;
+        }
+        met.all_of(&[0, 10])
+    });
+    tally.group("print, every buffer up to the text's length", || {
+        let mut met = Met::default();
+        let book = full().book();
+        let program = check(&book).map_err(|refusal| format!("refused {refusal}"))?;
+        for term in 0..program.terms.len() as u32 {
+            for newlines in [ONE_LINE].into_iter().chain(FLAGS) {
+                let call = Print {
+                    book: &book,
+                    term,
+                    tag: 0,
+                    newlines,
+                    indent: 1,
+                };
+                for room in 0..=call.length(&program) as usize + LONGER {
+                    call.compare(room, SCRATCH_SIZE, &mut met)?;
+                }
+            }
+        }
+        met.all_of(&[0, 10])
+    });
+    tally.group("print, as deep as a book can nest", || {
+        let mut met = Met::default();
+        for (name, m) in nests() {
+            let book = m.book();
+            let program = check(&book).map_err(|refusal| format!("{name}: refused {refusal}"))?;
+            for indent in INDENTS {
+                for newlines in [ONE_LINE, FLAGS[0]] {
+                    let call = Print {
+                        book: &book,
+                        term: program.terms.len() as u32 - 1,
+                        tag: 0,
+                        newlines,
+                        indent,
+                    };
+                    call.compare_around(call.length(&program), 0, &mut met)
+                        .map_err(|difference| format!("{name}: {difference}"))?;
+                }
+            }
+        }
+        met.all_of(&[0, 10])
+    });
+    tally.group("print, random terms", || {
+        let mut met = Met::default();
+        let mut shapes = [Met::default(), Met::default()];
+        let mut random = Random::new(SEED);
+        let mut printed = 0;
+        let mut bytes = 0;
+        while printed < RANDOM_TERMS {
+            let size = if random.one_in(HARDLY_EVER) {
+                LARGE
+            } else {
+                random.pick(&SIZES)
+            };
+            let counts = Counts::random(&mut random, size);
+            let book = random_book(&mut random, counts).book();
+            let program = check(&book).map_err(|refusal| format!("refused {refusal}"))?;
+            for _ in 0..TERMS_OF_A_BOOK.min(program.terms.len()) {
+                let term = any_term(&mut random, program.terms.len());
+                let [tag, indent] = [random.pick(&TAGS), random.pick(&INDENTS)];
+                for newlines in [ONE_LINE, random.pick(&FLAGS)] {
+                    let call = Print {
+                        book: &book,
+                        term,
+                        tag,
+                        newlines,
+                        indent,
+                    };
+                    let longer = random.below(LONGER);
+                    let length = call.length(&program);
+                    call.compare_around(length, longer, &mut met)?;
+                    if length <= LONGEST {
+                        bytes += length;
+                        let layout = &mut shapes[usize::from(newlines != 0)];
+                        visit(&program, term as usize, &mut |shape| layout.add(shape));
+                    }
+                }
+                printed += 1;
+            }
+        }
+        for layout in shapes {
+            layout.all_of(&SHAPES)?;
+        }
+        let said = met.all_of(&[0, 10])?;
+        Ok(format!("{printed} terms, {bytes} bytes of text, {said}"))
+    });
+    tally.group("print, refused calls", || {
+        let mut met = Met::default();
+        let mut random = Random::new(SEED);
+        for _ in 0..REFUSED_CALLS {
+            let book = any_book(&mut random);
+            let terms = check(&book).map_or(0, |program| program.terms.len());
+            let call = Print {
+                book: &book,
+                term: any_number(&mut random, terms),
+                tag: random.pick(&TAGS),
+                newlines: random.pick(&FLAGS),
+                indent: random.pick(&INDENTS),
+            };
+            let room = random.pick(&SHORT_ROOMS);
+            call.compare(room, scratch_length(&mut random), &mut met)?;
+        }
+        met.all_of(&ON_A_BOOK)
+    });
+}
+
+/// A chain of nodes as deep as it can be, each with a trace but for some.
+fn traced_chain() -> Vec<u8> {
+    let mut m = chain(MOST_DEPTH);
+    for (k, trace) in ["", "a", "two words"].into_iter().cycle().enumerate() {
+        let Some(context) = m.contexts.get(k).copied() else {
+            break;
+        };
+        let name = m.name(trace);
+        let [parent, term, _] = context;
+        m.contexts[k] = [parent, term, if k % 5 == 4 { 0 } else { name + 1 }];
+    }
+    m.book()
+}
+
+fn trace_groups(tally: &mut Tally) {
+    tally.group("trace, every node and every buffer", || {
+        let mut met = Met::default();
+        let mut books: Vec<Vec<u8>> = good_books().iter().map(|m| m.book()).collect();
+        books.push(traced_chain());
+        for book in &books {
+            let program = check(book).map_err(|refusal| format!("refused {refusal}"))?;
+            let nodes = program.nodes().len() as u32;
+            for node in [0, 1, 2, nodes / 2, nodes, nodes + 1, u32::MAX] {
+                let mut whole = vec![0; LONGEST as usize];
+                let mut scratch = [0; SCRATCH_SIZE];
+                let length = leskofar_reference::trace(book, &mut scratch, node, &mut whole);
+                let length = length.unwrap_or(0);
+                for room in [0, 1, length.saturating_sub(1), length, length + LONGER] {
+                    compare_trace(book, node, room, SCRATCH_SIZE, &mut met)?;
+                }
+            }
+        }
+        met.all_of(&[0, 7, 10])
+    });
+    tally.group("trace, random nodes", || {
+        let mut met = Met::default();
+        let mut random = Random::new(SEED);
+        for _ in 0..RANDOM_NODES {
+            let book = any_book(&mut random);
+            let nodes = check(&book).map_or(0, |program| program.nodes().len());
+            let node = any_number(&mut random, nodes);
+            let room = random.pick(&SHORT_ROOMS) + random.below(LONGER);
+            let scratch = scratch_length(&mut random);
+            compare_trace(&book, node, room, scratch, &mut met)?;
+        }
+        met.all_of(&ON_A_BOOK)
+    });
+}
+
+fn operator_groups(tally: &mut Tally) {
+    tally.group("operator, every code and buffer", || {
+        let mut met = Met::default();
+        let codes = (0..=NAMES.len() as u32 + LONGER as u32).chain(FAR_CODES);
+        let longest = NAMES.iter().map(|name| name.len()).max().unwrap_or(0);
+        for code in codes {
+            for room in 0..=longest + 1 {
+                let theirs = left(room, 0, |_, text| {
+                    told(leskofar_reference::operator(u64::from(code), text))
+                });
+                let ours = left(room, 0, |_, text| library::operator(code, text));
+                compare(&mut met, theirs, ours, || {
+                    format!("operator {code}, buffer {room}")
+                })?;
+            }
+        }
+        met.all_of(&[0, 10, 11])
+    });
+}
+
+pub fn run(tally: &mut Tally) {
+    print_groups(tally);
+    trace_groups(tally);
+    operator_groups(tally);
+}

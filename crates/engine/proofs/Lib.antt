@@ -1,0 +1,4 @@
+mod Entering
+mod Descending
+mod Moving
+mod Asking

@@ -1,0 +1,17 @@
+use mathlib.Core.Path.{sym, ap, _∙_}
+use Rattle.solver_expr.specs.Print.{printedValue}
+use Rattle.leskofar.specs.Exports.{told}
+use borrow.Author.Needs.{needs}
+use Rattle.leskofar.proofs.print_calls.tell.Statement.{statement}
+use Rattle.leskofar.proofs.print_calls.tell.Tie as tie
+
+returns : tie.Need-returns
+unfolding told printedValue
+returns c = sym (ap told (ap printedValue (c .before .p .given .1)))
+
+returns-2 : tie.Need-returns-2
+unfolding told printedValue
+returns-2 c = cc
+
+pub tell-spec : {M : Type 1} → statement M
+tell-spec = tie.close (tie.spec (λ c. search needs) (λ c. search needs) (λ c κs. search needs) returns returns-2)

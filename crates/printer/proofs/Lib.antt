@@ -1,0 +1,2 @@
+mod LayoutText
+mod RowText

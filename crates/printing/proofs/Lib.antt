@@ -1,0 +1,3 @@
+mod OperatorTable
+mod PrintCalls
+mod OperatorCalls
