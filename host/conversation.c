@@ -129,6 +129,9 @@ static enum turn turn(struct conversation *talk, int64_t *deadline) {
 }
 
 static bool queue(struct conversation *talk, const uint8_t *text, size_t length) {
+    if (talk->process.in < 0) {
+        return fail(talk, FAULT_INPUT_CLOSED) == GOES_ON;
+    }
     log_sent(talk->log, text, length);
     bytes_drop(&talk->to_send, talk->sent);
     talk->sent = 0;

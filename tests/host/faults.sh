@@ -77,6 +77,13 @@ expect 'fails_once' 3
 expect_results 'fails_once' 'Unproved Proved Unproved Proved'
 expect_solvers 'fails_once' "$work/once.log" 2
 
+# A solver that closes its input behind an answer is not waited for: each question gets a new one, long before the time is over.
+before=$(date +%s)
+run prove "$book" 3 34 3 34 3 34 --timeout "$ENOUGH" --solver 'exec tests/solvers/answers_once.sh'
+expect 'answers_once' 0
+expect_results 'answers_once' 'Proved Proved Proved'
+[ $(($(date +%s) - before)) -lt "$ENOUGH" ] && passed=$((passed + 1)) || fail 'answers_once' 'it is waited for'
+
 # Each question of a solver that always fails gets its own answer.
 run prove "$book" 3 34 4 34 1 34 --solver tests/solvers/killed_before_reply.sh
 expect 'all fail' 3
