@@ -1,8 +1,55 @@
 # make test is the test command: it installs what it needs, runs every part, and ends with one line 'N passed, M failed'.
-.PHONY: test bench proofs reference clean
+# make demo proves a sample plan with a real solver, from nothing.
+.PHONY: test demo host tools install bench proofs reference clean
+
+# The library that the host links; LIB=... takes another.
+LIB = target/staticlib/libleskofar.a
+
+PREFIX = /usr/local
+DESTDIR =
+VERSION = 0.1.0
+
+CC = cc
+CFLAGS = -O2
+HOST_FLAGS = -std=c11 -Wall -Wextra -Werror -pedantic -D_POSIX_C_SOURCE=200809L -Iinclude
+SANITIZERS = -fsanitize=address,undefined -fno-sanitize-recover=all -fno-omit-frame-pointer
+HOST = target/host/leskofar
+HOST_SOURCES = $(sort $(wildcard host/*.c))
+HOST_NEEDS = $(HOST_SOURCES) $(wildcard host/*.h) include/leskofar.h $(LIB)
 
 test:
 	@scripts/test.sh
+
+demo:
+	@scripts/demo.sh
+
+host: $(HOST)
+
+$(HOST): $(HOST_NEEDS)
+	@mkdir -p $(@D)
+	$(CC) $(HOST_FLAGS) $(CFLAGS) $(LDFLAGS) $(HOST_SOURCES) $(LIB) -o $@
+
+# The same with every misuse of memory and every undefined step found out.
+target/host/leskofar-sanitized: $(HOST_NEEDS)
+	@mkdir -p $(@D)
+	$(CC) $(HOST_FLAGS) -O1 -g $(SANITIZERS) $(LDFLAGS) $(HOST_SOURCES) $(LIB) -o $@
+
+# rt says itself what is unchanged.
+target/staticlib/libleskofar.a: $(wildcard crates/*/src/*.rt) crates.txt
+	rt staticlib leskofar
+	@touch $@
+
+# The tools for readable plans.
+tools:
+	cargo build --quiet --offline --release --manifest-path reference/Cargo.toml
+
+install: $(HOST)
+	install -d $(DESTDIR)$(PREFIX)/bin $(DESTDIR)$(PREFIX)/include $(DESTDIR)$(PREFIX)/lib/pkgconfig $(DESTDIR)$(PREFIX)/share/man/man1
+	install -m 755 $(HOST) $(DESTDIR)$(PREFIX)/bin/leskofar
+	install -m 644 include/leskofar.h $(DESTDIR)$(PREFIX)/include/leskofar.h
+	install -m 644 $(LIB) $(DESTDIR)$(PREFIX)/lib/libleskofar.a
+	install -m 644 host/leskofar.1 $(DESTDIR)$(PREFIX)/share/man/man1/leskofar.1
+	sed -e 's|@PREFIX@|$(PREFIX)|' -e 's|@VERSION@|$(VERSION)|' host/leskofar.pc.in > $(DESTDIR)$(PREFIX)/lib/pkgconfig/leskofar.pc
 
 # Speed, as ratios to the reference in one run.
 bench:

@@ -15,12 +15,7 @@ count() { # passed failed
 
 part() { printf '\n== %s\n' "$1"; }
 
-# A command that is missing is installed as a Debian package.
-need() { # command package
-    command -v "$1" >/dev/null 2>&1 && return 0
-    apt-get install -y "$2" >/dev/null 2>&1 || { apt-get update >/dev/null 2>&1 && apt-get install -y "$2" >/dev/null 2>&1; }
-    command -v "$1" >/dev/null 2>&1
-}
+. scripts/install-missing.sh
 
 # One test: a command that must succeed.
 one() { # name command...
@@ -97,6 +92,29 @@ if rt staticlib leskofar >"$log" 2>&1 && need cargo cargo && need cc gcc; then
 else
     cat "$log"
     echo 'FAILED: no static library, or no compiler'
+    count 0 1
+fi
+
+part 'the host, with z3, cvc5 and solvers that fail'
+# Under valgrind all is slower: fewer plans and bytes, and more patience.
+valgrind_host="valgrind -q --error-exitcode=99 --leak-check=full --errors-for-leak-kinds=definite,indirect,possible --child-silent-after-fork=yes target/host/leskofar"
+if need z3 z3 && need cvc5 cvc5 && need valgrind valgrind && need pkg-config pkg-config && need script bsdutils && need man man-db &&
+    make --no-print-directory host target/host/leskofar-sanitized tools >"$log" 2>&1; then
+    if cc -std=c11 -Wall -Wextra -Werror -pedantic tests/scan.c host/scan.c -o target/host/scan >"$log" 2>&1; then
+        counted 'S-expressions' target/host/scan
+    else
+        cat "$log"
+        echo 'FAILED: the test of S-expressions does not compile'
+        count 0 1
+    fi
+    counted 'host' tests/host.sh
+    counted 'host under sanitizers' env HOST=target/host/leskofar-sanitized PLANS=20 OTHER_PLANS=5 tests/host.sh
+    counted 'host under valgrind' env HOST="$valgrind_host" PLANS=20 OTHER_PLANS=2 PATIENCE=4 STEP=20 LARGE=2000000 tests/host.sh
+    counted 'installed' tests/install.sh
+    one 'make demo' make --no-print-directory demo
+else
+    cat "$log"
+    echo 'FAILED: no host, or what its tests need cannot be installed'
     count 0 1
 fi
 

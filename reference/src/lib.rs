@@ -4,6 +4,7 @@
 
 pub mod book;
 pub mod book_test;
+pub mod chains;
 pub mod commands;
 pub mod damage;
 pub mod engine;
@@ -12,6 +13,7 @@ pub mod levels;
 pub mod lower;
 pub mod maker;
 pub mod operators;
+pub mod plan;
 pub mod printing;
 pub mod program;
 pub mod random;

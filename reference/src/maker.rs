@@ -53,6 +53,22 @@ impl Maker {
         }
     }
 
+    /// How many records a section has.
+    pub fn count(&self, section: Section) -> usize {
+        match section {
+            Section::Letters => self.letters.len(),
+            Section::Names => self.names.len(),
+            Section::Types => self.types.len(),
+            Section::Constants => self.constants.len(),
+            Section::Functions => self.functions.len(),
+            Section::Axioms => self.axioms.len(),
+            Section::Patterns => self.patterns.len(),
+            Section::Terms => self.terms.len(),
+            Section::Contexts => self.contexts.len(),
+            Section::Lists => self.lists.len(),
+        }
+    }
+
     pub fn name(&mut self, text: &str) -> u32 {
         let start = self.letters.len() as u32;
         self.letters.extend_from_slice(text.as_bytes());

@@ -10,19 +10,19 @@ pub enum SType {
     SUserType(usize),
 }
 
-#[derive(Debug)]
+#[derive(Debug, PartialEq, Eq)]
 pub struct STypeDecl<'b> {
     pub name: &'b [u8],
 }
 
-#[derive(Debug)]
+#[derive(Debug, PartialEq, Eq)]
 pub struct SConstant<'b> {
     pub name: &'b [u8],
     pub typ: SType,
 }
 
 /// A function with its one declaration.
-#[derive(Debug)]
+#[derive(Debug, PartialEq, Eq)]
 pub struct Function<'b> {
     pub name: &'b [u8],
     pub input_types: Vec<SType>,
@@ -31,24 +31,24 @@ pub struct Function<'b> {
 }
 
 /// An axiom; its term is what `axiomMap` has for it.
-#[derive(Debug)]
+#[derive(Debug, PartialEq, Eq)]
 pub struct Axiom {
     pub term: Option<usize>,
     pub explains: Vec<usize>,
 }
 
-#[derive(Debug)]
+#[derive(Debug, PartialEq, Eq)]
 pub struct RPattern {
     pub exprs: Vec<usize>,
 }
 
-#[derive(Debug)]
+#[derive(Debug, PartialEq, Eq)]
 pub enum ROperator<'b> {
     BuiltInOperator(&'b [u8]),
     UserDefinedFunction(usize),
 }
 
-#[derive(Debug)]
+#[derive(Debug, PartialEq, Eq)]
 pub enum RExpr<'b> {
     Boolean(bool),
     Integer(i64),
@@ -80,7 +80,7 @@ pub enum RExpr<'b> {
 }
 
 /// A context node below the root; record i is node i + 1.
-#[derive(Debug)]
+#[derive(Debug, PartialEq, Eq)]
 pub struct RContextNode<'b> {
     pub parent: usize,
     pub expr: usize,
@@ -91,7 +91,7 @@ pub struct RContextNode<'b> {
 /// The node number of `RContextRoot`.
 pub const ROOT: usize = 0;
 
-#[derive(Debug)]
+#[derive(Debug, PartialEq, Eq)]
 pub struct Program<'b> {
     pub types: Vec<STypeDecl<'b>>,
     pub constants: Vec<SConstant<'b>>,

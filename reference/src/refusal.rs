@@ -24,3 +24,25 @@ pub fn refuse_if(fault: bool, number: u32) -> Result<(), u32> {
         Ok(())
     }
 }
+
+/// What a number means, after document 01's lists.
+pub fn meaning(number: u32) -> &'static str {
+    match number {
+        SCRATCH_SHORT => "scratch shorter than 1,024 bytes",
+        CONTENTS => "book under 80 bytes, or contents not as laid out",
+        COUNT => "a count over its limit",
+        FIELD => "a field or reached list entry out of range, an unused field not 0, a bad letter",
+        FOREST => "a child not smaller than its parent, or a term referred to twice",
+        DEPTH => "a node deeper than 64",
+        NOT_IN_BOOK => "the call's node or term is not in the book",
+        REPLY_UNSAT => "the model call's reply is `unsat`",
+        MISSING_AXIOM => "a declared function's axiom has no term",
+        TOO_LONG => "the text or reason is longer than its buffer",
+        OPERATOR_CODE => "an operator code outside 1 to 14",
+        SESSION => "the session is not that of a fresh move to its top node",
+        SOMETHING_OWED => "move or ask while a reply or model is owed",
+        NO_REPLY_OWED => "reply given, none owed",
+        NO_MODEL_OWED => "model given, none owed",
+        _ => "no refusal's number",
+    }
+}

@@ -103,6 +103,10 @@ impl<'b> SExpr<'b> {
 }
 
 impl SType {
+    /// The built-in types as they stand in a literal's name.
+    pub const BOOL_IN_LITERAL: &'static str = "bool";
+    pub const INT_IN_LITERAL: &'static str = "int";
+
     pub fn to_sexpr<'b>(self, program: &Program<'b>) -> SExpr<'b> {
         SExpr::name(match self {
             SType::SBool => b"Bool",
@@ -114,8 +118,8 @@ impl SType {
     /// As it stands in a literal's name.
     pub fn text<'b>(self, program: &Program<'b>) -> &'b [u8] {
         match self {
-            SType::SBool => b"bool",
-            SType::SInt => b"int",
+            SType::SBool => Self::BOOL_IN_LITERAL.as_bytes(),
+            SType::SInt => Self::INT_IN_LITERAL.as_bytes(),
             SType::SUserType(decl) => program.types[decl].name,
         }
     }

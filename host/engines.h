@@ -1,0 +1,18 @@
+/* The solvers that the program knows, each with the options that it needs, and any other command. */
+#ifndef ENGINES_H
+#define ENGINES_H
+
+#include <stdbool.h>
+
+enum { ENGINE_MOST_WORDS = 8 };
+
+struct engine {
+    const char *command[ENGINE_MOST_WORDS]; /* NULL behind the last word */
+    /* Whether the solver takes -5 for a name, as SMT-LIB 2.6 has it, and not for a number. */
+    bool reads_negatives_as_names;
+};
+
+/* What `--solver` names: z3, cvc5, or a command for the shell. */
+struct engine engine_named(const char *name);
+
+#endif

@@ -1,0 +1,105 @@
+#include "faults.h"
+
+#include <errno.h>
+#include <inttypes.h>
+#include <signal.h>
+#include <stdarg.h>
+#include <stdio.h>
+#include <string.h>
+#include <sys/wait.h>
+#include <unistd.h>
+
+/* The most letters of a message, and of what is shown of the solver's own. */
+enum { MOST_MESSAGE = 200, MOST_SHOWN = 1024 };
+enum { BYTES_PER_MIB = 1 << 20 };
+
+/* A message for which the memory does not suffice stays cut short: the check has failed either way. */
+static void add(struct bytes *fault, const char *format, ...) {
+    char message[MOST_MESSAGE];
+    va_list values;
+    va_start(values, format);
+    int length = vsnprintf(message, sizeof message, format, values);
+    va_end(values);
+    if (length > 0) {
+        (void)bytes_add_text(fault, message);
+    }
+}
+
+/* How a solver ended by itself. One that only closed its output has been killed by us, of which nothing is said. */
+static void add_ending(struct bytes *fault, int status) {
+    if (WIFEXITED(status) && WEXITSTATUS(status) == PROCESS_NOT_STARTED) {
+        add(fault, "the solver could not be started");
+    } else if (WIFEXITED(status)) {
+        add(fault, "the solver ended with status %d before its answer was whole", WEXITSTATUS(status));
+    } else if (WIFSIGNALED(status) && WTERMSIG(status) != SIGKILL) {
+        add(fault, "the solver was ended by signal %d before its answer was whole", WTERMSIG(status));
+    } else {
+        add(fault, "the solver ended or closed its output before its answer was whole");
+    }
+}
+
+static void add_what_happened(struct conversation *talk, enum fault fault, int why, int status) {
+    struct bytes *message = &talk->fault;
+    switch (fault) {
+    case FAULT_NO_PROCESS:
+        add(message, "no process can be made for the solver: %s", strerror(why));
+        break;
+    case FAULT_ENDED:
+        add_ending(message, status);
+        break;
+    case FAULT_INPUT_CLOSED:
+        add(message, "the solver closed its input before it had read everything");
+        break;
+    case FAULT_TIMEOUT:
+        add(message, "the solver gave no whole answer within %" PRIu64 " seconds", talk->limits.seconds);
+        break;
+    case FAULT_TOO_LONG:
+        add(message, "the solver's answer is longer than %d MiB", CONVERSATION_MOST_ANSWER / BYTES_PER_MIB);
+        break;
+    case FAULT_MEMORY:
+        add(message, "the memory does not suffice for what the solver writes");
+        break;
+    case FAULT_SYSTEM:
+        add(message, "the conversation with the solver broke off: %s", strerror(why));
+        break;
+    }
+}
+
+/* What the solver wrote, the first of it, without the line ends around it. */
+static void add_shown(struct bytes *fault, const char *title, const struct bytes *text, size_t begin) {
+    size_t end = text->length - begin < MOST_SHOWN ? text->length : begin + MOST_SHOWN;
+    while (begin < end && text->at[begin] == '\n') {
+        begin++;
+    }
+    while (begin < end && text->at[end - 1] == '\n') {
+        end--;
+    }
+    if (begin < end) {
+        add(fault, "\n%s: ", title);
+        (void)bytes_add(fault, text->at + begin, end - begin);
+    }
+}
+
+/* What an ended solver's standard error still holds, as far as it is shown. */
+static void read_last_errors(struct conversation *talk) {
+    uint8_t chunk[MOST_SHOWN];
+    ssize_t length = talk->process.err < 0 ? 0 : read(talk->process.err, chunk, sizeof chunk);
+    if (length > 0) {
+        (void)bytes_add(&talk->errors, chunk, (size_t)length);
+    }
+}
+
+void fault_tell(struct conversation *talk, enum fault fault) {
+    int why = errno;
+    int status = 0;
+    if (talk->is_open) {
+        status = process_kill(&talk->process);
+        read_last_errors(talk);
+        process_close_all(&talk->process);
+        talk->is_open = false;
+    }
+    add_what_happened(talk, fault, why, status);
+    add_shown(&talk->fault, "its output", &talk->received, talk->answered);
+    add_shown(&talk->fault, "its error output", &talk->errors, 0);
+    log_received(talk->log, talk->fault.at, talk->fault.length);
+}

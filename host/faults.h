@@ -1,0 +1,20 @@
+/* What can go wrong with a solver, and how it is told. */
+#ifndef FAULTS_H
+#define FAULTS_H
+
+#include "conversation.h"
+
+enum fault {
+    FAULT_NO_PROCESS,   /* no process can be made; errno says why */
+    FAULT_ENDED,        /* the solver ended, or closed its output */
+    FAULT_INPUT_CLOSED, /* the solver closed its input and did not go on */
+    FAULT_TIMEOUT,
+    FAULT_TOO_LONG,
+    FAULT_MEMORY,
+    FAULT_SYSTEM /* a call that should not fail; errno says why */
+};
+
+/* Ends the conversation, and puts into its `fault` what happened, with what the solver wrote last. */
+void fault_tell(struct conversation *talk, enum fault fault);
+
+#endif

@@ -1,0 +1,63 @@
+#include "help.h"
+
+const char HELP_PROGRAM[] =
+    "usage: leskofar COMMAND ...\n"
+    "\n"
+    "  check BOOK                            test a book\n"
+    "  print BOOK TERM                       print a term as the solver gets it\n"
+    "  trace BOOK NODE                       print the traces on the way to a node\n"
+    "  prove BOOK NODE TERM [NODE TERM ..]   ask a solver whether terms follow at nodes\n"
+    "\n"
+    "leskofar COMMAND --help says more of each.\n"
+    "\n"
+    "Exit status: 0 done, and all proved; 1 something is not proved; 2 refused, or\n"
+    "wrong usage; 3 the solver failed. Of several the largest is given.\n";
+
+const char HELP_CHECK[] =
+    "usage: leskofar check BOOK\n"
+    "\n"
+    "Tests a book, a file that `plan book` writes. A bad one gets the number of its\n"
+    "refusal and what it means.\n"
+    "\n"
+    "Exit status: 0 a good book; 2 a bad one, or wrong usage.\n";
+
+const char HELP_PRINT[] =
+    "usage: leskofar print BOOK TERM [--lines] [--indent N] [--tag N]\n"
+    "\n"
+    "Prints the term with number TERM as the solver gets it.\n"
+    "\n"
+    "  --lines      a line for each part of a row\n"
+    "  --indent N   with --lines: so many spaces before each line but the first\n"
+    "               (0 if not given)\n"
+    "  --tag N      the number that stands for %tag (0 if not given)\n"
+    "\n"
+    "Exit status: 0 printed; 2 refused, or wrong usage.\n";
+
+const char HELP_TRACE[] =
+    "usage: leskofar trace BOOK NODE\n"
+    "\n"
+    "Prints the traces of the nodes on the way from the root to node NODE, a line\n"
+    "for each that has one. Node 0 is the root.\n"
+    "\n"
+    "Exit status: 0 printed; 2 refused, or wrong usage.\n";
+
+const char HELP_PROVE[] =
+    "usage: leskofar prove BOOK NODE TERM [NODE TERM ..] [OPTIONS]\n"
+    "\n"
+    "Asks a solver, for each pair of numbers, whether the term follows at the node.\n"
+    "One solver answers all questions; after a failure the next one gets a new\n"
+    "solver. Each question gets a line, and below it the reason and the node's\n"
+    "trace where it is not proved.\n"
+    "\n"
+    "  --solver z3|cvc5|COMMAND   the solver, z3 if not given; COMMAND is run by\n"
+    "                             the shell, and reads SMT-LIB from its standard\n"
+    "                             input\n"
+    "  --timeout SECONDS          for each answer of the solver (60 if not given)\n"
+    "  --memory MIB               the most memory that the solver may have (no\n"
+    "                             limit if not given)\n"
+    "  --log FILE                 write the whole conversation to FILE, as a\n"
+    "                             script, with the answers as comments\n"
+    "  --quiet                    say nothing but what is refused or fails\n"
+    "\n"
+    "Exit status: 0 all proved; 1 some not proved; 2 refused, or wrong usage; 3 the\n"
+    "solver failed. Of several the largest is given.\n";

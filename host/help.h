@@ -1,0 +1,11 @@
+/* The texts of --help. */
+#ifndef HELP_H
+#define HELP_H
+
+extern const char HELP_PROGRAM[];
+extern const char HELP_CHECK[];
+extern const char HELP_PRINT[];
+extern const char HELP_TRACE[];
+extern const char HELP_PROVE[];
+
+#endif

@@ -1,0 +1,104 @@
+#include "commands.h"
+
+#include "prove.h"
+
+#include <errno.h>
+#include <stdlib.h>
+#include <string.h>
+
+enum { DEFAULT_SECONDS = 60, MOST_SECONDS = 24 * 60 * 60, MOST_MIB = 1 << 30, BYTES_PER_MIB = 1 << 20 };
+
+static const char USAGE[] = "usage: leskofar prove BOOK NODE TERM [NODE TERM ..] [OPTIONS]";
+
+/* What the command is asked for. */
+struct request {
+    const char *book;
+    struct question *questions;
+    size_t count;
+    const char *solver;
+    const char *log;
+    uint64_t seconds;
+    uint64_t mib;
+    bool is_quiet;
+};
+
+/* The questions: pairs of numbers behind the book. */
+static bool read_questions(const struct operands *operands, struct request *request) {
+    request->count = (operands->count - 1) / 2;
+    request->questions = calloc(request->count, sizeof request->questions[0]);
+    if (request->questions == NULL) {
+        complain("the memory does not suffice");
+        return false;
+    }
+    for (size_t i = 0; i < request->count; i++) {
+        char **pair = operands->at + 1 + 2 * i;
+        uint64_t node = 0;
+        uint64_t term = 0;
+        if (!options_number(pair[0], "NODE", 0, UINT32_MAX, &node) || !options_number(pair[1], "TERM", 0, UINT32_MAX, &term)) {
+            return false;
+        }
+        request->questions[i] = (struct question){(uint32_t)node, (uint32_t)term};
+    }
+    return true;
+}
+
+static bool read_request(int count, char **arguments, struct request *request) {
+    struct operands operands;
+    const struct option options[] = {{.name = "--solver", .text = &request->solver},
+                                     {.name = "--log", .text = &request->log},
+                                     {.name = "--timeout", .number = &request->seconds, .least = 1, .most = MOST_SECONDS},
+                                     {.name = "--memory", .number = &request->mib, .least = 1, .most = MOST_MIB},
+                                     {.name = "--quiet", .flag = &request->is_quiet}};
+    if (!options_read(count, arguments, options, sizeof options / sizeof options[0], &operands)) {
+        return false;
+    }
+    if (operands.count < 3 || operands.count % 2 == 0) {
+        complain(USAGE);
+        return false;
+    }
+    request->book = operands.at[0];
+    return read_questions(&operands, request);
+}
+
+static enum status ask_all(const struct request *request, struct writer *writer, struct log *log) {
+    struct prover prover;
+    const struct engine engine = engine_named(request->solver);
+    const struct limits limits = {request->seconds, request->mib * BYTES_PER_MIB};
+    enum status status = STATUS_SOLVER_FAILED;
+    if (prover_begin(&prover, writer, &engine, &limits, log, show_begin(request->is_quiet))) {
+        prover_ask_all(&prover, request->questions, request->count);
+        status = prover.status;
+    } else {
+        complain("the memory does not suffice");
+    }
+    prover_end(&prover);
+    return status;
+}
+
+/* With the log open, if there is to be one. */
+static enum status prove_logged(const struct request *request, struct writer *writer) {
+    struct log log;
+    if (!log_open(&log, request->log)) {
+        complain("%s: %s", request->log, strerror(errno));
+        return STATUS_REFUSED;
+    }
+    enum status status = ask_all(request, writer, &log);
+    if (!log_close(&log)) {
+        complain("%s cannot be written", request->log);
+        status = status > STATUS_REFUSED ? status : STATUS_REFUSED;
+    }
+    return status;
+}
+
+enum status command_prove(int count, char **arguments) {
+    struct request request = {.solver = "z3", .seconds = DEFAULT_SECONDS};
+    struct writer writer = {0};
+    enum status status = STATUS_REFUSED;
+    if (read_request(count, arguments, &request) && command_open(&writer, request.book) &&
+        command_accepted(request.book, writer_test_book(&writer))) {
+        status = prove_logged(&request, &writer);
+    }
+    free(request.questions);
+    writer_free(&writer);
+    return show_end() || status > STATUS_REFUSED ? status : STATUS_REFUSED;
+}

@@ -1,0 +1,41 @@
+#include "refusals.h"
+
+#include <leskofar.h>
+
+const char *refusal_meaning(uint32_t refusal) {
+    switch ((enum leskofar_refusal)refusal) {
+    case LESKOFAR_ACCEPTED:
+        return "accepted";
+    case LESKOFAR_SHORT_SCRATCH:
+        return "the scratch is shorter than 1,024 bytes";
+    case LESKOFAR_BAD_CONTENTS:
+        return "the book is under 80 bytes, or its table of contents is not as laid out";
+    case LESKOFAR_COUNT_OVER_LIMIT:
+        return "a section of the book has more records than it may";
+    case LESKOFAR_FIELD_OUT_OF_RANGE:
+        return "a field or list entry of the book is out of range, an unused field is not 0, or a letter is bad";
+    case LESKOFAR_NO_FOREST:
+        return "a child is not smaller than its parent, or a term is referred to twice";
+    case LESKOFAR_TOO_DEEP:
+        return "a node is deeper than 64";
+    case LESKOFAR_NOT_IN_BOOK:
+        return "the node or term is not in the book";
+    case LESKOFAR_REPLY_IS_UNSAT:
+        return "a model is given for the reply unsat";
+    case LESKOFAR_MISSING_AXIOM:
+        return "a function that the question needs is explained by an axiom without a term";
+    case LESKOFAR_BUFFER_TOO_SHORT:
+        return "the text is longer than its buffer";
+    case LESKOFAR_NO_OPERATOR:
+        return "the operator's code is not from 1 to 14";
+    case LESKOFAR_NO_SESSION:
+        return "the session is not one that this book's calls leave";
+    case LESKOFAR_QUESTION_OPEN:
+        return "a reply or model is owed";
+    case LESKOFAR_NO_REPLY_OWED:
+        return "a reply is given and none is owed";
+    case LESKOFAR_NO_MODEL_OWED:
+        return "a model is given and none is owed";
+    }
+    return "a number that no refusal has";
+}

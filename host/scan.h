@@ -1,0 +1,30 @@
+/*
+ * Finds where the S-expressions end that a solver writes, as its bytes come in. Parentheses in strings, between bars and in comments do
+ * not count. Whatever else stands there is an item too, so that nothing is passed over.
+ */
+#ifndef SCAN_H
+#define SCAN_H
+
+#include <stdbool.h>
+#include <stddef.h>
+#include <stdint.h>
+
+enum scan_mode { SCAN_BETWEEN, SCAN_ATOM, SCAN_STRING, SCAN_ESCAPED, SCAN_QUOTE, SCAN_BARS, SCAN_COMMENT };
+
+/* One that is all zero begins at byte 0. */
+struct scan {
+    enum scan_mode mode;
+    size_t depth; /* how many parentheses are open */
+    size_t next;  /* the first byte that was not looked at */
+    size_t start; /* the item's begin and end; the end once it is found */
+    size_t end;
+    bool in_item;
+};
+
+/*
+ * Goes on in bytes that begin as before and may have grown: true where an item has ended, else there are too few bytes. A word or string
+ * outside of parentheses ends at the byte behind it.
+ */
+bool scan_item(struct scan *scan, const uint8_t *bytes, size_t length);
+
+#endif

@@ -1,0 +1,92 @@
+#include "writer.h"
+
+/* The text buffer's size at first, enough for whatever closes a question, and at last. */
+enum { LEAST_TEXT = 1 << 16, MOST_TEXT = 1 << 28 };
+
+/* The pairs of pointer and length that the calls take. */
+#define BOOK(w) (w)->book.at, (w)->book.length
+#define SCRATCH(w) (w)->scratch, sizeof(w)->scratch
+#define IMAGE(w) (w)->image, sizeof(w)->image
+#define TEXT(w) (w)->text.at, (w)->text.room
+#define REASON(w) (w)->reason.at, (w)->reason.room
+
+bool writer_begin(struct writer *writer) {
+    *writer = (struct writer){0};
+    return bytes_reserve(&writer->text, LEAST_TEXT);
+}
+
+void writer_free(struct writer *writer) {
+    bytes_free(&writer->book);
+    bytes_free(&writer->text);
+    bytes_free(&writer->reason);
+}
+
+/*
+ * Whether a call was refused for its text's buffer, and that could be doubled: then the call is made again. A refused call has changed
+ * nothing. Where the buffer cannot grow the refusal stands.
+ */
+static bool has_more_room(struct writer *writer, uint32_t refusal) {
+    return refusal == LESKOFAR_BUFFER_TOO_SHORT && writer->text.room < MOST_TEXT &&
+           bytes_reserve(&writer->text, 2 * writer->text.room);
+}
+
+static uint32_t printed(struct writer *writer, leskofar_printed answer) {
+    writer->text.length = (size_t)answer.length;
+    return answer.refusal;
+}
+
+static uint32_t answered(struct writer *writer, leskofar_answer answer) {
+    writer->result = answer.result;
+    writer->text.length = (size_t)answer.text;
+    writer->reason.length = (size_t)answer.reason;
+    return answer.refusal;
+}
+
+uint32_t writer_test_book(struct writer *writer) {
+    return leskofar_book_test(BOOK(writer), SCRATCH(writer));
+}
+
+uint32_t writer_print(struct writer *writer, uint32_t term, const struct layout *layout) {
+    leskofar_printed answer;
+    do {
+        answer = leskofar_print(BOOK(writer), SCRATCH(writer), term, layout->tag, layout->lines, layout->indent, TEXT(writer));
+    } while (has_more_room(writer, answer.refusal));
+    return printed(writer, answer);
+}
+
+uint32_t writer_trace(struct writer *writer, uint32_t node) {
+    leskofar_printed answer;
+    do {
+        answer = leskofar_trace(BOOK(writer), SCRATCH(writer), node, TEXT(writer));
+    } while (has_more_room(writer, answer.refusal));
+    return printed(writer, answer);
+}
+
+uint32_t writer_fresh(struct writer *writer) {
+    return leskofar_fresh(IMAGE(writer));
+}
+
+uint32_t writer_ask(struct writer *writer, uint32_t node, uint32_t goal) {
+    leskofar_answer answer;
+    do {
+        answer = leskofar_ask(BOOK(writer), SCRATCH(writer), IMAGE(writer), node, goal, TEXT(writer));
+    } while (has_more_room(writer, answer.refusal));
+    return answered(writer, answer);
+}
+
+uint32_t writer_reply(struct writer *writer, bool has_checked, const uint8_t *reply, size_t length) {
+    if (!bytes_reserve(&writer->reason, length)) {
+        return LESKOFAR_BUFFER_TOO_SHORT;
+    }
+    return answered(writer, leskofar_reply(BOOK(writer), SCRATCH(writer), IMAGE(writer), has_checked, reply, length, TEXT(writer),
+                                           REASON(writer)));
+}
+
+uint32_t writer_model(struct writer *writer, const uint8_t *reply, size_t reply_length, const uint8_t *model, size_t model_length) {
+    size_t line_end = 1;
+    if (!bytes_reserve(&writer->reason, reply_length + line_end + model_length)) {
+        return LESKOFAR_BUFFER_TOO_SHORT;
+    }
+    return answered(writer, leskofar_model(BOOK(writer), SCRATCH(writer), IMAGE(writer), reply, reply_length, model != NULL, model,
+                                           model_length, TEXT(writer), REASON(writer)));
+}

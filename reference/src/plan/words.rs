@@ -1,0 +1,181 @@
+//! The form's own words, and how names and strings are written.
+
+use crate::operators;
+
+/// The words that items begin with.
+pub const LETTERS: &str = "letters";
+pub const LISTS: &str = "lists";
+pub const TYPE: &str = "type";
+pub const CONSTANT: &str = "constant";
+pub const FUNCTION: &str = "function";
+pub const AXIOM: &str = "axiom";
+pub const PATTERN: &str = "pattern";
+pub const TERM: &str = "term";
+pub const NODE: &str = "node";
+pub const GOAL: &str = "goal";
+
+/// Keywords.
+pub const NAME_KEY: &str = ":name";
+pub const EXPLAINED_BY_KEY: &str = ":explained-by";
+pub const EXPLAINS_KEY: &str = ":explains";
+pub const TRACE_KEY: &str = ":trace";
+pub const PATTERN_KEY: &str = ":pattern";
+
+/// The types that every plan has, and the node above all others.
+pub const BOOL_TYPE: &str = "Bool";
+pub const INT_TYPE: &str = "Int";
+pub const ROOT_NODE: &str = "root";
+
+/// The words of terms.
+pub const TRUE: &str = "true";
+pub const FALSE: &str = "false";
+pub const ITE: &str = "ite";
+pub const LET: &str = "let";
+pub const FORALL: &str = "forall";
+pub const EXISTS: &str = "exists";
+pub const ANNOTATED: &str = "!";
+pub const LITERAL: &str = "literal";
+pub const BUILT_IN: &str = "builtin";
+pub const TAG: &str = "%tag";
+
+/// Between a literal and its type where it is printed.
+pub const LITERAL_SEPARATOR: &str = ":";
+
+const TERM_WORDS: [&str; 10] = [
+    TRUE, FALSE, ITE, LET, FORALL, EXISTS, ANNOTATED, LITERAL, BUILT_IN, TAG,
+];
+/// SMT-LIB 2.6's reserved words, the names of its commands among them. A
+/// solver takes none of them as a name, z3 not even between bars.
+const SMT_LIB_WORDS: [&str; 43] = [
+    "!",
+    "_",
+    "as",
+    "BINARY",
+    "DECIMAL",
+    "exists",
+    "HEXADECIMAL",
+    "forall",
+    "let",
+    "match",
+    "NUMERAL",
+    "par",
+    "STRING",
+    "assert",
+    "check-sat",
+    "check-sat-assuming",
+    "declare-const",
+    "declare-datatype",
+    "declare-datatypes",
+    "declare-fun",
+    "declare-sort",
+    "define-fun",
+    "define-fun-rec",
+    "define-funs-rec",
+    "define-sort",
+    "echo",
+    "exit",
+    "get-assertions",
+    "get-assignment",
+    "get-info",
+    "get-model",
+    "get-option",
+    "get-proof",
+    "get-unsat-assumptions",
+    "get-unsat-core",
+    "get-value",
+    "pop",
+    "push",
+    "reset",
+    "reset-assertions",
+    "set-info",
+    "set-logic",
+    "set-option",
+];
+/// Operators of SMT-LIB's core and integers that have no code in a book.
+const MORE_OPERATORS: [&str; 5] = ["distinct", "xor", ">", ">=", "abs"];
+/// What a symbol may hold besides letters and digits, by SMT-LIB.
+const SYMBOL_SIGNS: &[u8] = b"~!@$%^&*_-+=<>.?/";
+
+const BAR: char = '|';
+const BACKSLASH: char = '\\';
+const QUOTE: char = '"';
+
+/// An operator that may stand without `builtin`. Only these may, so that a
+/// misspelt function is not taken for an operator.
+pub fn is_operator(text: &str) -> bool {
+    operators::NAMES.contains(&text.as_bytes()) || MORE_OPERATORS.contains(&text)
+}
+
+/// What no constant, function or term can be called in a plan.
+pub fn is_reserved_symbol(text: &str) -> bool {
+    TERM_WORDS.contains(&text) || is_operator(text) || SMT_LIB_WORDS.contains(&text)
+}
+
+pub fn is_reserved_type(text: &str) -> bool {
+    [BOOL_TYPE, INT_TYPE].contains(&text) || SMT_LIB_WORDS.contains(&text)
+}
+
+pub fn is_reserved_node(text: &str) -> bool {
+    text == ROOT_NODE
+}
+
+pub fn is_symbol_byte(byte: u8) -> bool {
+    byte.is_ascii_alphanumeric() || SYMBOL_SIGNS.contains(&byte)
+}
+
+/// Digits, with a minus before them or not.
+pub fn is_integer(text: &str) -> bool {
+    let digits = text.strip_prefix('-').unwrap_or(text);
+    !digits.is_empty() && digits.bytes().all(|byte| byte.is_ascii_digit())
+}
+
+/// A symbol that needs no bars.
+pub fn is_simple(text: &str) -> bool {
+    let begins = text
+        .bytes()
+        .next()
+        .is_some_and(|byte| !byte.is_ascii_digit());
+    begins && text.bytes().all(is_symbol_byte) && !is_integer(text)
+}
+
+/// The bars' content may have any letters but these two, by SMT-LIB.
+pub fn may_stand_in_bars(letter: char) -> bool {
+    letter != BAR && letter != BACKSLASH
+}
+
+/// A symbol as the text has it. Since the solver reads names as they are, it
+/// is also the name that a record has if none is given.
+pub fn symbol(text: &str) -> String {
+    if is_simple(text) {
+        text.to_string()
+    } else {
+        format!("{BAR}{text}{BAR}")
+    }
+}
+
+/// The name that the solver sees: the given one, else the plan's own.
+pub fn solver_name(text: &str, given: Option<&str>) -> String {
+    match given {
+        Some(given) => given.into(),
+        None => symbol(text),
+    }
+}
+
+/// The symbol whose name would be `name`, if there is one.
+pub fn symbol_of_name(name: &str) -> Option<&str> {
+    let barred = name.strip_prefix(BAR).and_then(|n| n.strip_suffix(BAR));
+    let text = barred.unwrap_or(name);
+    let has_name = text.chars().all(may_stand_in_bars) && symbol(text) == name;
+    has_name.then_some(text)
+}
+
+/// A string as the text has it: a quote inside is doubled.
+pub fn string(text: &str) -> String {
+    let doubled = text.replace(QUOTE, "\"\"");
+    format!("{QUOTE}{doubled}{QUOTE}")
+}
+
+/// The letters of a book's name; they are ASCII.
+pub fn text_of(letters: &[u8]) -> String {
+    letters.iter().copied().map(char::from).collect()
+}

@@ -1,0 +1,149 @@
+#!/bin/sh
+# The host as it is run: with z3 and cvc5, with solvers that fail, and on made plans whose truth is known.
+#
+#   HOST      the command to test; may have words before it, such as valgrind's
+#   TOOLS     where the reference's tools `plan` and `chains` are
+#   PLANS     how many made plans z3 is asked, and OTHER_PLANS how many cvc5
+#   PARTS     which of the groups in tests/host/
+#   PATIENCE  how many seconds a silent solver gets
+#   STEP      how many bytes lie between two at which a solver dies
+#   LARGE     how many bytes the large model has
+#
+# Ends with a line 'N passed, M failed'.
+set -u
+cd "$(dirname "$0")/.." || exit 1
+HOST=${HOST:-target/host/leskofar}
+TOOLS=${TOOLS:-reference/target/release}
+PLANS=${PLANS:-500}
+OTHER_PLANS=${OTHER_PLANS:-50}
+PATIENCE=${PATIENCE:-1}
+STEP=${STEP:-2}
+# No run takes longer, whatever its solver does.
+HANGS_AFTER=120
+export LARGE="${LARGE:-20000000}"
+
+work=$(mktemp -d) || exit 1
+trap 'rm -rf "$work"' EXIT
+export SOLVER_PIDS="$work/pids"
+export ONCE="$work/once"
+out=$work/out
+err=$work/err
+passed=0
+failed=0
+
+fail() { # name why
+    echo "FAILED: $1: $2"
+    failed=$((failed + 1))
+    is_good=no
+}
+
+# Runs the host; its output, errors and status are looked at by what follows.
+run() { # arguments...
+    : >"$SOLVER_PIDS"
+    # The host's words are meant to fall apart.
+    # shellcheck disable=SC2086
+    timeout "$HANGS_AFTER" $HOST "$@" >"$out" 2>"$err" </dev/null
+    status=$?
+}
+
+# Whether a process is there; one that has ended and that nobody has waited for yet is not.
+lives() { # number
+    [ -r "/proc/$1/stat" ] && ! grep -q '^[0-9]* (.*) Z' "/proc/$1/stat" 2>/dev/null
+}
+
+somebody_lives() {
+    while read -r pid; do
+        lives "$pid" && return 0
+    done <"$SOLVER_PIDS"
+    return 1
+}
+
+# The host waits for the solver itself; who else was killed with it takes a moment to go.
+nobody_is_left() {
+    tries=0
+    while somebody_lives; do
+        tries=$((tries + 1))
+        [ "$tries" -lt 20 ] || return 1
+        sleep 0.1
+    done
+    return 0
+}
+
+# The status of the last run, and texts that its output must have.
+expect() { # name status [text...]
+    name=$1
+    is_good=yes
+    [ "$status" -eq "$2" ] || fail "$name" "status $status, not $2: $(head -c 500 "$out" "$err")"
+    shift 2
+    for text in "$@"; do
+        grep -qF -- "$text" "$out" "$err" || fail "$name" "no '$text' in $(head -c 500 "$out" "$err")"
+    done
+    nobody_is_left || fail "$name" 'a process is left'
+    [ "$is_good" = no ] || passed=$((passed + 1))
+}
+
+# What the last run must not have said.
+expect_not() { # name text
+    if grep -qF -- "$2" "$out" "$err"; then
+        fail "$1" "there is '$2'"
+    else
+        passed=$((passed + 1))
+    fi
+}
+
+# The last run's results, a word for each question.
+expect_results() { # name results
+    results=$(sed -n 's/^node [0-9]*, term [0-9]*: \([A-Za-z]*\).*/\1/p' "$out" | tr '\n' ' ')
+    if [ "$results" = "$2 " ]; then
+        passed=$((passed + 1))
+    else
+        fail "$1" "results $results"
+    fi
+}
+
+# How many solvers a run has started, by its log.
+expect_solvers() { # name log count
+    if [ "$(grep -c '^; a new solver$' "$2")" -eq "$3" ]; then
+        passed=$((passed + 1))
+    else
+        fail "$1" "not $3 solvers"
+    fi
+}
+
+# A sample as a book, with its goals' numbers.
+book_of() { # sample
+    "$TOOLS/plan" book "samples/$1.plan" -o "$work/$1.book" --goals >"$work/$1.goals" || exit 1
+    pairs=$(cut -d ' ' -f 1,2 "$work/$1.goals" | tr '\n' ' ')
+}
+
+# A solver that answers gets time enough, also on a busy machine.
+ENOUGH=60
+seconds=$ENOUGH
+fault() { # solver status [text...]
+    solver=$1
+    shift
+    run prove "$book" 3 34 --timeout "$seconds" --solver "exec tests/solvers/$solver.sh"
+    expect "$solver" "$@"
+}
+
+# A solver whose question must come out as failed, and never as proved.
+fails() { # solver [text...]
+    solver=$1
+    shift
+    fault "$solver" 3 'Unproved, the solver failed' "$@"
+    expect_not "$solver" ': Proved'
+}
+
+# One that does not end by itself.
+hangs() { # solver [text...]
+    seconds=$PATIENCE
+    fails "$@"
+    seconds=$ENOUGH
+}
+
+for group in ${PARTS:-usage samples faults limits plans}; do
+    . "tests/host/$group.sh"
+done
+
+echo "$passed passed, $failed failed"
+[ "$failed" -eq 0 ]

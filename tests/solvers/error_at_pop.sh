@@ -1,0 +1,9 @@
+#!/bin/sh
+# An error for a pop, which comes with the next question.
+. "${0%/*}/common.sh"
+at_other() {
+    case $1 in
+        '(pop)') echo '(error "no level")' ;;
+    esac
+}
+serve
