@@ -148,6 +148,8 @@ static void measure_shape(const struct shape *s) {
     measure_session(in_node);
     written = write_axioms(book, s, 1);
     measure_session((struct given){s->name, "in an axiom"});
+    /* The term before the last is the axiom's. As the goal it is walked twice at once: the function in it sends the axiom. */
+    measure("ask of the axiom", (struct given){s->name, "in an axiom"}, LESKOFAR_SESSION_STACK, ask_at_root, written.term - 1);
     written = write_axioms(book, s, MOST_AXIOMS);
     measure_session((struct given){s->name, "in as many axioms as there can be"});
 }
