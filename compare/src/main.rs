@@ -17,6 +17,7 @@ mod made_sessions;
 mod made_terms;
 mod printing;
 mod random_calls;
+mod script;
 mod seen;
 mod session_books;
 mod session_images;
@@ -41,6 +42,7 @@ fn main() -> ExitCode {
     sessions::run(&mut tally);
     session_images::run(&mut tally);
     session_tours::run(&mut tally);
+    script::run(&mut tally);
     if tally.close() {
         ExitCode::SUCCESS
     } else {

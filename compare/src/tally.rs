@@ -50,6 +50,14 @@ impl<K: Copy + Display + Ord> Met<K> {
         }
     }
 
+    /// Fails if one of them was never met, or another was.
+    pub fn only(&self, keys: &[K]) -> Result<String, String> {
+        match self.0.keys().find(|key| !keys.contains(key)) {
+            Some(key) => Err(format!("{key} was met")),
+            None => self.all_of(keys),
+        }
+    }
+
     fn said(&self) -> String {
         let total: usize = self.0.values().sum();
         let each: Vec<String> = self

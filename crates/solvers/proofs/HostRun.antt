@@ -36,7 +36,7 @@ use Rattle.solvers.proofs.Enough.{levels-length}
 use Rattle.solvers.proofs.Image.{Imaged, read-written}
 
 -- ---- an accepted text fits its buffer, and the host takes it whole
-abbrev FitsIn : Host → Outcome Written → Type 0
+abbrev pub FitsIn : Host → Outcome Written → Type 0
 FitsIn h (refused k) = Unit {0}
 FitsIn h (accepted w) = length (textOf w) ≤ length (h .text)
 
@@ -53,20 +53,20 @@ fitting-fits h w = at _ refl
     at true e = unfold refuse _>>_ in tt
     at false e = unfold refuse _>>_ in ltb-false (length (h .text)) (length (textOf w)) (or-left _ _ e)
 
-call-fits : (b : Book) (s : Session) (c : Call) → FitsIn (hostOf c) (call b s c)
+pub call-fits : (b : Book) (s : Session) (c : Call) → FitsIn (hostOf c) (call b s c)
 unfolding call moveCall askCall replyCall modelCall hostOf
 call-fits b s (moveTo h n) = behind h _ _ (behind h _ _ (behind h _ _ (behind h _ _ (behind h _ _ (fitting-fits h _)))))
 call-fits b s (askFor h n t) = behind h _ _ (behind h _ _ (behind h _ _ (behind h _ _ (behind h _ _ (fitting-fits h _)))))
 call-fits b s (replyWith h ok r) = behind h _ _ (behind h _ _ (behind h _ _ (fitting-fits h _)))
 call-fits b s (modelWith h r m) = behind h _ _ (behind h _ _ (behind h _ _ (behind h _ _ (fitting-fits h _))))
 
-take-overlay : (t : Text) (buffer : List ℕ) → length t ≤ length buffer → take (length t) (overlay t buffer) ≡ t
+pub take-overlay : (t : Text) (buffer : List ℕ) → length t ≤ length buffer → take (length t) (overlay t buffer) ≡ t
 unfolding overlay
 take-overlay [] buffer h = refl
 take-overlay (x ∷ t) [] h = absurd (omega arith)
 take-overlay (x ∷ t) (y ∷ buffer) h = ap {B = Text} (λ (r : Text). x ∷ r) (take-overlay t buffer (omega arith))
 
-by-length : (r : Option ProofResult) (n : ℕ) → textLength (valuesBy r n) ≡ n
+pub by-length : (r : Option ProofResult) (n : ℕ) → textLength (valuesBy r n) ≡ n
 unfolding textLength valuesBy
 by-length none n = refl
 by-length (some Proved) n = refl

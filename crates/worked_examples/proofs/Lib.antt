@@ -8,3 +8,4 @@ pub mod Refusals
 pub mod Depths
 pub mod Lists
 pub mod Sessions
+pub mod Scripts

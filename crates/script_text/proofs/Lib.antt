@@ -1,0 +1,5 @@
+pub mod Telling
+pub mod Turning
+pub mod Cut
+pub mod Shapes
+pub mod Running
