@@ -1,6 +1,7 @@
 //! Program script, as it was built, against the reference: what it prints for
 //! its standard input.
 
+use crate::made_terms::nests;
 use crate::tally::{Met, Tally};
 use leskofar_reference::book::INT;
 use leskofar_reference::damage::damaged;
@@ -13,6 +14,8 @@ use std::io::Write;
 use std::process::{Command, Stdio};
 
 const ROOT: &str = concat!(env!("CARGO_MANIFEST_DIR"), "/..");
+/// The stack that the program is given.
+const STACK_KIB: usize = 2_048;
 const STOPPED: &str = "; stopped";
 const REFUSED: &str = "; refused ";
 const RANDOM_INPUTS: usize = 10_000;
@@ -40,7 +43,9 @@ pub fn input(book: &[u8], calls: &[[u32; 3]]) -> Vec<u8> {
 }
 
 fn program(input: &[u8]) -> Result<Vec<u8>, String> {
-    let mut child = Command::new(format!("{ROOT}/target/bin/script"))
+    let mut child = Command::new("sh")
+        .args(["-c", &format!("ulimit -s {STACK_KIB}; exec \"$0\"")])
+        .arg(format!("{ROOT}/target/bin/script"))
         .stdin(Stdio::piped())
         .stdout(Stdio::piped())
         .spawn()
@@ -182,6 +187,14 @@ pub fn run(tally: &mut Tally) {
             compare(&long_ask(operator), &mut met)?;
         }
         met.all_of(&[0, 10])
+    });
+    tally.group("script, the deepest terms", || {
+        let mut met = Met::default();
+        for (_, maker) in nests() {
+            let goal = maker.terms.len() as u32 - 1;
+            compare(&input(&maker.book(), &[[ASK, 0, goal]]), &mut met)?;
+        }
+        met.only(&[0])
     });
     tally.group("script, random books and calls", || {
         let mut met = Met::default();

@@ -1,7 +1,8 @@
 // Reads a book and calls from standard input, and prints what a session sends for them: document 01's program.
-// Its output is `scriptOutput` of crate script_text; what is proved of that, and what is only tested, is in README.md.
+// Its output is `scriptOutput` of crate script_text; docs/SCRIPT.md says what is proved of that and what is only tested.
 ghost use mathlib.Core.Path.{_≡_};
 ghost use lib.ListN.{length};
+ghost use Rattle.basics.specs.Buffer.{scratchLeast};
 ghost use Rattle.script_text.specs.Script.{textSize, lastSession, run};
 ghost use Rattle.script_text.specs.Turned.{Desk};
 ghost use Rattle.solvers.specs.Session.{freshSession};
@@ -19,6 +20,7 @@ use solvers::Session;
 // One byte more than the longest input, so that a longer one shows.
 const INPUT_ROOM: usize = INPUT_MOST + 1;
 
+// The least scratch that a call takes.
 const SCRATCH: usize = 1024;
 
 fn input_buffer() -> [u8; INPUT_ROOM] {
@@ -26,7 +28,7 @@ fn input_buffer() -> [u8; INPUT_ROOM] {
 }
 
 fn scratch_buffer() -> [u8; SCRATCH]
-    ensures { λ r. ⌜ length r ≡ 1024 ⌝ }
+    ensures { λ r. ⌜ length r ≡ scratchLeast ⌝ }
 {
     [0; SCRATCH]
 }

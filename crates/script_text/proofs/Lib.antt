@@ -3,3 +3,4 @@ pub mod Turning
 pub mod Cut
 pub mod Shapes
 pub mod Running
+pub mod Replied

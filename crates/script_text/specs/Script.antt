@@ -1,5 +1,6 @@
 -- PROGRAM SCRIPT: what it prints for its standard input.
 use Prim.Native.Nat.{ℕ, zero, suc, _+_}
+use mathlib.Core.Path.{_≡_}
 use mathlib.Core.List.{List, [], _∷_, _++_}
 use mathlib.Core.Bool.{Bool, true, false, _&&_, _||_}
 use lib.Dec.{eqb, ltb}
@@ -10,7 +11,7 @@ use Rattle.basics.specs.Buffer.{scratchLeast}
 use Rattle.basics.specs.Outcome.{Outcome, refused, accepted}
 use Rattle.book.specs.Book.{Book, word}
 use Rattle.solvers.specs.declared.Session.{Session}
-use Rattle.solvers.specs.Session.{Written, textOf, freshSession}
+use Rattle.solvers.specs.Session.{Written, Proved, textOf, closed, freshSession}
 use Rattle.solvers.specs.Calls.{Host, moveTo, askFor, replyWith, call}
 use Rattle.solvers.specs.Left.{sessionAfter}
 use Rattle.solvers.specs.Returned.{lent}
@@ -40,9 +41,16 @@ pub data Shape : Type 0 where
   asking : (node term : ℕ) → Shape
   stopping : Shape
 
--- 1 is a move, which has no term, and 2 an ask
+abbrev moveKind : ℕ
+moveKind = 1
+
+abbrev askKind : ℕ
+askKind = 2
+
+-- a move carries 0 for its term
 unfoldable pub shapeOf : (kind node term : ℕ) → Shape
-shapeOf kind node term = if eqb kind 1 && eqb term 0 then moving node else if eqb kind 2 then asking node term else stopping
+shapeOf kind node term =
+    if eqb kind moveKind && eqb term 0 then moving node else if eqb kind askKind then asking node term else stopping
 
 -- the call at the front; one cut short stops the program
 unfoldable pub shape : List ℕ → Shape
@@ -65,6 +73,11 @@ pub record Printed : Type 0 where
 -- the reply to an accepted ask
 unfoldable pub reply : Book → Session → Outcome Written
 reply b s = call b s (replyWith desk true (ascii "unsat"))
+
+-- THE REPLY TO AN ACCEPTED ASK IS NEVER REFUSED: two pops, and nothing is owed (proofs/Replied.antt)
+unfoldable pub Replied : Book → Outcome Written → Type 0
+Replied b (refused n) = Unit {0}
+Replied b (accepted w) = reply b (w .session) ≡ accepted (closed (w .session) Proved)
 
 unfoldable pub answered : Book → Session → Outcome Written → Printed
 answered b s (refused n) = record { text = refusedLine n; session = s; more = true }
