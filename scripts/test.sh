@@ -96,7 +96,7 @@ else
 fi
 
 part 'the host, with z3, cvc5 and solvers that fail'
-# Under valgrind all is slower: fewer plans and bytes, and more patience.
+# Under valgrind all is slower: the samples and the solvers that fail, fewer bytes, and more patience.
 valgrind_host="valgrind -q --error-exitcode=99 --leak-check=full --errors-for-leak-kinds=definite,indirect,possible --child-silent-after-fork=yes target/host/leskofar"
 if need z3 z3 && need cvc5 cvc5 && need valgrind valgrind && need pkg-config pkg-config && need script bsdutils && need man man-db &&
     make --no-print-directory host target/host/leskofar-sanitized tools >"$log" 2>&1; then
@@ -109,7 +109,7 @@ if need z3 z3 && need cvc5 cvc5 && need valgrind valgrind && need pkg-config pkg
     fi
     counted 'host' tests/host.sh
     counted 'host under sanitizers' env HOST=target/host/leskofar-sanitized PLANS=20 OTHER_PLANS=5 tests/host.sh
-    counted 'host under valgrind' env HOST="$valgrind_host" PLANS=20 OTHER_PLANS=2 PATIENCE=4 STEP=20 LARGE=2000000 tests/host.sh
+    counted 'host under valgrind' env HOST="$valgrind_host" PARTS='samples faults' PATIENCE=4 STEP=20 LARGE=2000000 tests/host.sh
     counted 'installed' tests/install.sh
     one 'make demo' make --no-print-directory demo
 else

@@ -1,10 +1,9 @@
 // What C links: the public calls, on numbers and byte slices. include/leskofar.h says what each does.
 ghost use mathlib.Core.Path.{_≡_};
-ghost use Rattle.book.specs.Refusal.{number};
 ghost use Rattle.book_test.specs.BookTest.{bookTestCall};
 ghost use Rattle.leskofar.specs.Exports.{refusalOf};
-use book::Refusal;
 use book_test::Tested;
+use refusal_numbers::number;
 
 mod print_calls;
 mod session_calls;
@@ -22,29 +21,6 @@ pub use session_calls::leskofar_reply;
 
 // The answer of an accepted call where a refusal's number would stand.
 const ACCEPTED: u32 = 0;
-
-// Document 01's number of a refusal.
-fn number(r: Refusal) -> u32
-    ensures { λ n. ⌜ n ≡ number r ⌝ }
-{
-    match r {
-        Refusal::ShortScratch => 1,
-        Refusal::BadContents => 2,
-        Refusal::CountOverLimit => 3,
-        Refusal::FieldOutOfRange => 4,
-        Refusal::NoForest => 5,
-        Refusal::TooDeep => 6,
-        Refusal::NotInBook => 7,
-        Refusal::ReplyIsUnsat => 8,
-        Refusal::MissingAxiom => 9,
-        Refusal::BufferTooShort => 10,
-        Refusal::NoOperator => 11,
-        Refusal::NoSession => 20,
-        Refusal::QuestionOpen => 21,
-        Refusal::NoReplyOwed => 22,
-        Refusal::NoModelOwed => 23,
-    }
-}
 
 #[no_mangle]
 pub extern "C" fn leskofar_book_test(book: &[u8], scratch: &mut [u8]) -> u32

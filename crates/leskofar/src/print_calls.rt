@@ -5,9 +5,9 @@ ghost use Rattle.solver_expr.specs.Print.{printedValue, printCall, operatorCall
 ghost use Rattle.printing.specs.Calls.{layoutOf};
 ghost use Rattle.leskofar.specs.Exports.{told, flag};
 use super::ACCEPTED;
-use super::number;
 use printing::operator;
 use printing::print;
+use refusal_numbers::number;
 use solver_expr::Printed;
 use traces::trace;
 

@@ -9,12 +9,12 @@ ghost use Rattle.replies.specs.Replies.{given};
 ghost use Rattle.image_calls.specs.Stored.{freshImage};
 ghost use Rattle.leskofar.specs.Exports.{flag, answered, freshRefusal};
 use super::ACCEPTED;
-use super::number;
 use image_calls::ask_image;
 use image_calls::fresh_image;
 use image_calls::model_image;
 use image_calls::move_image;
 use image_calls::reply_image;
+use refusal_numbers::number;
 use solvers::Answer;
 
 // What an accepted call gives: a text, and of a goal that it is proved, or with a reason that it is not.
