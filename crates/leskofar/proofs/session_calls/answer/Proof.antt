@@ -1,3 +1,4 @@
+use mathlib.Core.Path.{sym, ap, _∙_}
 use Rattle.leskofar.specs.Exports.{answered}
 use Rattle.solvers.specs.Left.{answerValue}
 use borrow.Author.Needs.{needs}
@@ -6,15 +7,15 @@ use Rattle.leskofar.proofs.session_calls.answer.Tie as tie
 
 returns : tie.Need-returns
 unfolding answered answerValue
-returns c = cc
+returns c = c .accepted .ensures ∙ sym (ap answered (ap answerValue (c .before .before .a .given .1)))
 
 returns-2 : tie.Need-returns-2
 unfolding answered answerValue
-returns-2 c = cc
+returns-2 c = c .accepted2 .ensures ∙ sym (ap answered (ap answerValue (c .before .before .a2 .given .1)))
 
 returns-3 : tie.Need-returns-3
 unfolding answered answerValue
-returns-3 c = cc
+returns-3 c = c .accepted3 .ensures ∙ sym (ap answered (ap answerValue (c .before .before .a3 .given .1)))
 
 returns-4 : tie.Need-returns-4
 unfolding answered answerValue
