@@ -1,6 +1,7 @@
 # make test is the test command: it installs what it needs, runs every part, and ends with one line 'N passed, M failed'.
+# make quick is its quick form, for the hours of work; it says what it leaves out.
 # make demo proves a sample plan with a real solver, from nothing.
-.PHONY: test demo host tools install bench proofs reference clean
+.PHONY: test quick wrong-programs demo host tools install bench proofs reference clean
 
 # The library that the host links; LIB=... takes another.
 LIB = target/staticlib/libleskofar.a
@@ -19,6 +20,13 @@ HOST_NEEDS = $(HOST_SOURCES) $(wildcard host/*.h) include/leskofar.h $(LIB)
 
 test:
 	@scripts/test.sh
+
+quick:
+	@scripts/quick.sh
+
+# More wrong programs that the prover must refuse; CRATES='a b' tries those of some crates.
+wrong-programs:
+	@scripts/wrong-programs.sh $(CRATES)
 
 demo:
 	@scripts/demo.sh

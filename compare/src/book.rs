@@ -105,10 +105,11 @@ pub fn run(tally: &mut Tally) {
         }
         met.all_of(&[0, 2, 3, 4, 5, 6])
     });
+    let random_books = tally.share(RANDOM_BOOKS);
     tally.group("book test, random books", || {
         let mut met = Met::default();
         let mut random = Random::new(SEED);
-        for _ in 0..RANDOM_BOOKS {
+        for _ in 0..random_books {
             let size = random.pick(&SIZES);
             let counts = Counts::random(&mut random, size);
             let m = random_book(&mut random, counts);

@@ -1,6 +1,7 @@
 //! Compares the proved library with the reference. It ends with a line
 //! `N passed, M failed`, and with status 1 where one failed. With the word
-//! `bench` it measures both instead.
+//! `tenth` it tries a tenth of the random inputs; with the word `bench` it
+//! measures both instead.
 #![deny(warnings)]
 
 mod bench;
@@ -12,6 +13,7 @@ mod damaged_images;
 mod library;
 mod lists;
 mod made_books;
+mod made_costly;
 mod made_rules;
 mod made_sessions;
 mod made_terms;
@@ -32,11 +34,20 @@ mod timing;
 use std::process::ExitCode;
 
 fn main() -> ExitCode {
-    if std::env::args().nth(1).as_deref() == Some("bench") {
-        bench::run();
-        return ExitCode::SUCCESS;
-    }
-    let mut tally = tally::Tally::default();
+    let word = std::env::args().nth(1);
+    let one_of = match word.as_deref() {
+        None => 1,
+        Some("tenth") => 10,
+        Some("bench") => {
+            bench::run();
+            return ExitCode::SUCCESS;
+        }
+        Some(word) => {
+            eprintln!("compare: {word} is neither tenth nor bench");
+            return ExitCode::FAILURE;
+        }
+    };
+    let mut tally = tally::Tally::new(one_of);
     book::run(&mut tally);
     printing::run(&mut tally);
     sessions::run(&mut tally);

@@ -286,13 +286,14 @@ fn print_groups(tally: &mut Tally) {
         }
         met.all_of(&[0, 10])
     });
+    let random_terms = tally.share(RANDOM_TERMS);
     tally.group("print, random terms", || {
         let mut met = Met::default();
         let mut shapes = [Met::default(), Met::default()];
         let mut random = Random::new(SEED);
         let mut printed = 0;
         let mut bytes = 0;
-        while printed < RANDOM_TERMS {
+        while printed < random_terms {
             let size = if random.one_in(HARDLY_EVER) {
                 LARGE
             } else {
@@ -330,10 +331,11 @@ fn print_groups(tally: &mut Tally) {
         let said = met.all_of(&[0, 10])?;
         Ok(format!("{printed} terms, {bytes} bytes of text, {said}"))
     });
+    let refused_calls = tally.share(REFUSED_CALLS);
     tally.group("print, refused calls", || {
         let mut met = Met::default();
         let mut random = Random::new(SEED);
-        for _ in 0..REFUSED_CALLS {
+        for _ in 0..refused_calls {
             let book = any_book(&mut random);
             let terms = check(&book).map_or(0, |program| program.terms.len());
             let call = Print {
@@ -384,10 +386,11 @@ fn trace_groups(tally: &mut Tally) {
         }
         met.all_of(&[0, 7, 10])
     });
+    let random_nodes = tally.share(RANDOM_NODES);
     tally.group("trace, random nodes", || {
         let mut met = Met::default();
         let mut random = Random::new(SEED);
-        for _ in 0..RANDOM_NODES {
+        for _ in 0..random_nodes {
             let book = any_book(&mut random);
             let nodes = check(&book).map_or(0, |program| program.nodes().len());
             let node = any_number(&mut random, nodes);

@@ -196,10 +196,11 @@ pub fn run(tally: &mut Tally) {
         }
         met.only(&[0])
     });
+    let random_inputs = tally.share(RANDOM_INPUTS);
     tally.group("script, random books and calls", || {
         let mut met = Met::default();
         let mut random = Random::new(SEED);
-        for _ in 0..RANDOM_INPUTS {
+        for _ in 0..random_inputs {
             let counts = if random.one_in(HARDLY_EVER) {
                 Counts::limits()
             } else {

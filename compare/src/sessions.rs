@@ -155,12 +155,13 @@ fn random_groups(tally: &mut Tally) {
         }
         seen.results.all_of(&RESULTS[..2])
     });
+    let lists = tally.share(LISTS);
     tally.group("session, random lists of calls", || {
         let mut seen = Seen::default();
         let mut measure = Measure::new();
         let mut random = Random::new(SEED);
         let mut other = fresh_image().to_vec();
-        for _ in 0..LISTS {
+        for _ in 0..lists {
             let m = if random.one_in(OFTEN) {
                 session_book(&mut random)
             } else {
@@ -177,7 +178,7 @@ fn random_groups(tally: &mut Tally) {
         seen.images.all_of(&manners())?;
         let every_byte: Vec<u8> = (0..=u8::MAX).collect();
         seen.reasons.all_of(&every_byte)?;
-        let mut said = format!("{LISTS} lists, levels held {} times", seen.levels);
+        let mut said = format!("{lists} lists, levels held {} times", seen.levels);
         for ((call, numbers), met) in REFUSALS.iter().zip(&seen.refusals) {
             let met = met
                 .all_of(numbers)

@@ -4,13 +4,27 @@
 use std::collections::BTreeMap;
 use std::fmt::Display;
 
-#[derive(Default)]
 pub struct Tally {
     passed: usize,
     failed: usize,
+    /// Of so many random inputs one is tried.
+    one_of: usize,
 }
 
 impl Tally {
+    pub fn new(one_of: usize) -> Tally {
+        Tally {
+            passed: 0,
+            failed: 0,
+            one_of,
+        }
+    }
+
+    /// How many of so many random inputs are tried.
+    pub fn share(&self, inputs: usize) -> usize {
+        inputs / self.one_of
+    }
+
     /// Runs a group. The first difference fails it.
     pub fn group(&mut self, name: &str, run: impl FnOnce() -> Result<String, String>) {
         match run() {

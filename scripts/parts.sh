@@ -1,0 +1,72 @@
+# Sourced: the parts that the gate and its quick form share. Each counts what it ran.
+
+layout() {
+    part 'layout'
+    one 'rt fmt --check' sh -c 'said=$(rt fmt --check 2>&1); echo "$said"; test -z "$said"'
+    one 'the wrong programs that docs/CONTRACTS.md names' scripts/named-edits.sh
+}
+
+# What rt says, without the lines that say nothing new, and with its status.
+told_by() { # command...
+    "$@" >"$log.ci" 2>&1
+    status=$?
+    grep -v '^logic\|^library\|^note: no function\|^fn .*: proved\|(unchanged since' "$log.ci"
+    rm -f "$log.ci"
+    return "$status"
+}
+
+reference() {
+    part 'reference program'
+    if ! need cargo cargo; then
+        echo 'FAILED: no cargo, and it could not be installed'
+        count 0 1
+        return
+    fi
+    (cd reference && cargo test --offline --release) >"$log" 2>&1
+    status=$?
+    grep '^test result\|FAILED\|panicked\|^error' "$log"
+    p=$(sed -n 's/^test result: .* \([0-9]*\) passed; .*/\1/p' "$log" | awk '{ n += $1 } END { print n + 0 }')
+    f=$(sed -n 's/^test result: .* passed; \([0-9]*\) failed.*/\1/p' "$log" | awk '{ n += $1 } END { print n + 0 }')
+    count "$p" "$f"
+    if [ "$status" -ne 0 ] && [ "$f" -eq 0 ]; then cat "$log"; count 0 1; fi
+}
+
+# The library against the reference, and from C.
+library() { # words for the comparison...
+    part 'the library, against the reference'
+    if ! { rt staticlib leskofar >"$log" 2>&1 && need cargo cargo && need cc gcc; }; then
+        cat "$log"
+        echo 'FAILED: no static library, or no compiler'
+        count 0 1
+        return
+    fi
+    counted 'comparison' cargo run --quiet --offline --release --manifest-path compare/Cargo.toml -- "$@"
+    part 'the library, from C'
+    for test in capi sessions stack; do
+        compiled "tests/$test.c" "target/$test" -pthread -Iinclude target/staticlib/libleskofar.a
+    done
+}
+
+# A test in C that ends in a line of counts.
+compiled() { # source program words for the compiler...
+    source=$1
+    program=$2
+    shift 2
+    if cc -std=c11 -Wall -Wextra -Werror -pedantic "$source" "$@" -o "$program" >"$log" 2>&1; then
+        counted "$source" "$program"
+    else
+        cat "$log"
+        echo "FAILED: $source does not compile"
+        count 0 1
+    fi
+}
+
+# The host, its tools, and what its tests need.
+host_built() {
+    need z3 z3 && need cvc5 cvc5 && need valgrind valgrind && need pkg-config pkg-config && need script bsdutils && need man man-db &&
+        make --no-print-directory host target/host/leskofar-sanitized tools >"$log" 2>&1 && return
+    cat "$log"
+    echo 'FAILED: no host, or what its tests need cannot be installed'
+    count 0 1
+    return 1
+}
