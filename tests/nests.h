@@ -25,10 +25,10 @@ enum {
 };
 
 /*
- * What all nests share: constant 0, name 0, function 0, and list entry 0, which stands for that constant, for the empty pattern 0, and
- * for function and axiom 0.
+ * What all nests share: constant 0, name 0, function 0, and list entries 0 and 1, which stand for that constant, for the empty
+ * pattern 0, and for function and axiom 0.
  */
-enum { ONE = 0, ONES = 1 };
+enum { ONE = 0, ONES = 1, TWICE = 2 };
 
 struct nest {
     uint32_t functions[MOST_FUNCTIONS][FUNCTION_FIELDS];
@@ -50,7 +50,7 @@ static inline void begin_nest(struct nest *n) {
     n->function_count = ONES;
     n->functions[ONE][1] = INT;
     n->pattern_count = ONES;
-    n->list_count = ONES;
+    n->list_count = TWICE;
 }
 
 static inline uint32_t add_term(struct nest *n, const uint32_t fields[TERM_FIELDS]) {
@@ -102,6 +102,11 @@ static inline uint32_t quantifier_body(struct nest *n, uint32_t inner) {
     return add_term(n, (const uint32_t[TERM_FIELDS]){QUANTIFIER_EXPR, 1, ONE, ONES, ONE, ONES, inner});
 }
 
+/* The first of several variables is not the last part of their list. */
+static inline uint32_t body_of_two(struct nest *n, uint32_t inner) {
+    return add_term(n, (const uint32_t[TERM_FIELDS]){QUANTIFIER_EXPR, 1, ONE, TWICE, ONE, ONES, inner});
+}
+
 /* The first term of the first of two patterns is two lists deep, as long as there are patterns. */
 static inline uint32_t pattern_term(struct nest *n, uint32_t inner) {
     if (n->pattern_count == MOST_PATTERNS) {
@@ -119,9 +124,13 @@ static const struct shape {
     uint32_t (*step)(struct nest *, uint32_t);
     size_t terms; /* that a step adds, at most */
 } shapes[] = {
-    {"only arguments", only_argument, 1},   {"function's arguments", function_argument, 1},
-    {"first arguments", first_argument, 2}, {"guards", guard, 3},
-    {"right sides", right_side, 2},         {"quantifier bodies", quantifier_body, 1},
+    {"only arguments", only_argument, 1},
+    {"function's arguments", function_argument, 1},
+    {"first arguments", first_argument, 2},
+    {"guards", guard, 3},
+    {"right sides", right_side, 2},
+    {"quantifier bodies", quantifier_body, 1},
+    {"bodies of two variables", body_of_two, 1},
     {"pattern terms and bodies", pattern_term, 3},
 };
 
@@ -172,25 +181,38 @@ static inline struct written write_nest(uint8_t *book, const struct shape *s) {
     return write_out(book, &n);
 }
 
-/* So many functions, each explained by an axiom with a nest of one shape, in which the next one is applied; a node applies the first. */
-static inline struct written write_axioms(uint8_t *book, const struct shape *s, size_t count) {
-    static struct nest n;
-    const size_t share = (MOST_TERMS - 1) / count;
-    begin_nest(&n);
-    n.function_count = count;
-    n.axiom_count = count;
+/* So many functions, each explained by an axiom with a nest of one shape, in which the next one is applied, of so many terms in all. */
+static inline void add_axioms(struct nest *n, const struct shape *s, size_t count, size_t most) {
+    const size_t share = most / count;
+    n->function_count = count;
+    n->axiom_count = count;
     for (uint32_t i = 0; i < count; i++) {
         uint32_t next = (uint32_t)((i + 1) % count);
-        uint32_t applied = add_term(&n, (const uint32_t[TERM_FIELDS]){FUNCTION, next});
-        uint32_t start = add_entry(&n, i);
+        uint32_t applied = add_term(n, (const uint32_t[TERM_FIELDS]){FUNCTION, next});
+        uint32_t start = add_entry(n, i);
         const uint32_t function[FUNCTION_FIELDS] = {ONE, INT, ONE, 0, start, 1};
         /* The first axiom has what is left over. */
-        const size_t most = MOST_TERMS - 1 - share * (count - 1 - i);
-        const uint32_t axiom[AXIOM_FIELDS] = {nest_around(&n, s, applied, most), start, 1};
-        memcpy(n.functions[i], function, sizeof function);
-        memcpy(n.axioms[i], axiom, sizeof axiom);
+        const size_t all = most - share * (count - 1 - i);
+        const uint32_t axiom[AXIOM_FIELDS] = {nest_around(n, s, applied, all), start, 1};
+        memcpy(n->functions[i], function, sizeof function);
+        memcpy(n->axioms[i], axiom, sizeof axiom);
     }
+}
+
+/* Such axioms, and a node that applies the first function. */
+static inline struct written write_axioms(uint8_t *book, const struct shape *s, size_t count) {
+    static struct nest n;
+    begin_nest(&n);
+    add_axioms(&n, s, count, MOST_TERMS - 1);
     add_node(&n, 0, add_term(&n, (const uint32_t[TERM_FIELDS]){FUNCTION, ONE}));
+    return write_out(book, &n);
+}
+
+/* One such axiom that has all terms. As the goal it is walked twice at once: the function in it sends the axiom. */
+static inline struct written write_own_axiom(uint8_t *book, const struct shape *s) {
+    static struct nest n;
+    begin_nest(&n);
+    add_axioms(&n, s, ONES, MOST_TERMS);
     return write_out(book, &n);
 }
 

@@ -3,6 +3,7 @@
 use crate::bench_sessions;
 use crate::library;
 use crate::made_books::full;
+use crate::made_costly::overlapping;
 use crate::made_terms::{flat, nests_of};
 use crate::timing::{fastest, percent, ratio};
 use leskofar_reference::book_test::SCRATCH_SIZE;
@@ -21,20 +22,29 @@ const LONG: usize = 1000;
 /// The nests that are printed: one that costs a call for each term, and one
 /// that costs none.
 const NESTS: [&str; 2] = ["bodies before a pattern", "only arguments"];
+/// Entries that all ranges of a book share.
+const ENTRIES: [usize; 4] = [256, 512, 1024, 2048];
 /// More than any text here has.
 const ROOM: usize = 1 << 24;
 
 fn bench_book_test() {
     let mut random = Random::new(SEED);
     let middle = Counts::random(&mut random, MIDDLE);
-    let books = [
-        ("a small book", full().book()),
-        ("a middle book", random_book(&mut random, middle).book()),
+    let mut books = vec![
+        ("a small book".to_string(), full().book()),
         (
-            "the largest book",
+            "a middle book".to_string(),
+            random_book(&mut random, middle).book(),
+        ),
+        (
+            "the largest book".to_string(),
             random_book(&mut random, Counts::limits()).book(),
         ),
     ];
+    books.extend(ENTRIES.map(|entries| {
+        let name = format!("ranges that share {entries} entries");
+        (name, overlapping(entries).book())
+    }));
     for (name, book) in &books {
         let mut scratch = [0; SCRATCH_SIZE];
         let mut other = [0; SCRATCH_SIZE];

@@ -2,6 +2,7 @@
 //! this run: cost against path length, term count and literal count.
 
 use crate::library::book_test;
+use crate::made_costly::{alike, explained_often};
 use crate::made_terms::{flat, nests_of};
 use crate::session_library::{self as library, Answer, Buffers};
 use crate::timing::{fastest, percent, ratio};
@@ -18,12 +19,16 @@ const DEPTHS: [usize; 4] = [8, 16, 32, 64];
 const TERMS: [usize; 4] = [128, 256, 512, 1024];
 /// Up to nearly as many.
 const LITERALS: [usize; 4] = [125, 250, 500, 1000];
+/// Entries of ExplainedBy and Explains, up to as many as a book can have.
+const ENTRIES: [usize; 4] = [256, 512, 1024, 2048];
+/// Letters of literals whose names differ late.
+const ALIKE: [usize; 3] = [512, 1024, 2048];
 /// The names of the arguments of flat terms.
 const LETTERS: usize = 9;
 /// The nest that costs a call for each term.
 const NEST: &str = "bodies before a pattern";
 /// More than any text here has.
-const ROOM: usize = 1 << 20;
+const ROOM: usize = 1 << 23;
 
 /// A move, or an ask where there is a goal.
 #[derive(Clone, Copy)]
@@ -154,6 +159,18 @@ fn literals(count: usize) -> Maker {
     m
 }
 
+/// From the root to a node with the last term.
+fn bench_move(name: &str, size: usize, mut m: Maker) {
+    let last = m.terms.len() as u32 - 1;
+    let to = m.context(0, last);
+    let travel = Travel {
+        from: 0,
+        to,
+        goal: None,
+    };
+    bench(&format!("move, {name}"), size, &m, travel);
+}
+
 /// To a node with the last term, and that term asked.
 fn bench_last_term(name: &str, size: usize, mut m: Maker) {
     let last = m.terms.len() as u32 - 1;
@@ -199,5 +216,19 @@ pub fn run() {
     }
     for count in LITERALS {
         bench_last_term("literals", count, literals(count));
+    }
+    for letters in ALIKE {
+        bench_move(
+            "literals that differ late, by letters",
+            letters,
+            alike(letters),
+        );
+    }
+    for entries in ENTRIES {
+        bench_move(
+            "axioms listed often, by entries",
+            entries,
+            explained_often(entries),
+        );
     }
 }

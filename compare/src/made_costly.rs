@@ -1,0 +1,77 @@
+//! Books that cost more than their text or their bytes suggest: ranges that
+//! overlap, and names that differ late.
+
+use leskofar_reference::book::{kind, Section, BOOL, INT};
+use leskofar_reference::maker::Maker;
+
+const SHARED: &str = "x";
+/// An axiom without a term.
+const NO_TERM: u32 = u32::MAX;
+
+/// As many functions as there can be. All list axiom 0, once for each entry but
+/// the last; it explains function 0 as often, and then the last function. So it
+/// is looked up over and over, and the last entry alone tells that it is not to
+/// be sent yet. The last term applies the functions in their order.
+pub fn explained_often(entries: usize) -> Maker {
+    let mut m = Maker::default();
+    let last = Section::Functions.most() as u32 - 1;
+    let [start, all] = [0, entries as u32];
+    m.lists = vec![0; entries];
+    m.lists[entries - 1] = last;
+    let name = m.name(SHARED);
+    let truth = m.boolean(true);
+    m.axioms = vec![[NO_TERM, start, 0]; Section::Axioms.most()];
+    m.axioms[0] = [truth, start, all];
+    m.functions = vec![[name, INT, start, 0, start, all - 1]; last as usize + 1];
+    let mut rest = m.apply(last, &[]);
+    for function in (0..last).rev() {
+        let guard = m.apply(function, &[]);
+        let thn = m.boolean(true);
+        rest = m.if_then_else(guard, thn, rest);
+    }
+    m
+}
+
+/// As many quantifiers as there can be terms, each over the same so many
+/// constants and the same so many empty patterns.
+pub fn overlapping(entries: usize) -> Maker {
+    let mut m = Maker::default();
+    m.constant(SHARED, INT);
+    m.pattern(&[]);
+    m.lists = vec![0; entries];
+    let all = entries as u32;
+    let mut body = m.boolean(true);
+    while m.terms.len() < Section::Terms.most() {
+        body = m.term(kind::QUANTIFIER, [1, 0, all, 0, all, body]);
+    }
+    m
+}
+
+/// As many names as there can be, nearly, each so many letters long, which
+/// differ in their last letters; two literals of each.
+pub fn alike(letters: usize) -> Maker {
+    let mut m = Maker::default();
+    let op = m.name("and");
+    let names = Section::Names.most() - 1;
+    let first = m.letters.len();
+    m.letters.extend(vec![b'a'; letters + names]);
+    // A name that starts one letter later has the only other letter one place earlier.
+    m.letters[first + letters - 1] = b'b';
+    let names: Vec<u32> = (0..names)
+        .map(|start| {
+            m.names.push([(first + start) as u32, letters as u32]);
+            m.names.len() as u32 - 1
+        })
+        .collect();
+    let literals: Vec<[u32; 2]> = names
+        .iter()
+        .flat_map(|n| [BOOL, INT].map(|t| [*n, t]))
+        .collect();
+    let args: Vec<u32> = literals
+        .into_iter()
+        .map(|l| m.term(kind::CUSTOM_LITERAL, l))
+        .collect();
+    let [start, count] = m.list(&args);
+    m.term(kind::BUILT_IN, [op, start, count]);
+    m
+}
