@@ -15,7 +15,7 @@ use Rattle.book.specs.Program.{Program, nodeAt, pathUp, path, depth}
 use Rattle.smt_engines.specs.Command.{Command}
 use Rattle.rsolver.specs.Step.{Step, skip, _⨟_, doUnless, unless, doEither, either}
 use Rattle.rsolver.specs.SolverState.{StackItem, SolverState, newSolver, isTop, pushed, popTo, popped, told, bodies}
-use Rattle.rsolver.specs.REngine.{assume, assumeNot, declareNewSymbols, enter, adjustContext, popTimes, setContext, askGoal, askModel, closeGoal}
+use Rattle.rsolver.specs.REngine.{assume, assumeNot, check, askModel, endCheck, declareNewSymbols, enter, adjustContext, popTimes, setContext, askGoal, closeGoal}
 use Rattle.rsolver.proofs.Contracts.{Same, push-ensures, pop-undoes-push, assume-ensures, memo-top}
 use Rattle.rsolver.proofs.ContractsWalk.{symbols-evolve, NoneTwice, Unrepeated, symbols-unrepeated}
 
@@ -107,17 +107,17 @@ module _ (p : Program) where
     unfolding depth path pathUp
     depth-node n = ap (λ ns. suc (length ns)) (path-fuel n _ (nodeAt p (suc n) .parent) (smaller n) (le-refl _))
 
-  -- Prove: when it is closed, all is as it was, whether or not a model was asked for
+  -- REngine.Prove behind SetContext: when it is closed, all is as it was, whether or not a model was asked for
   ask-stack : (node : ℕ) (e : RExpr) (s : SolverState) → askGoal bodies p node e s .stack ≡ pushed node s .stack
-  unfolding askGoal _⨟_ told assumeNot
+  unfolding askGoal check _⨟_ told assumeNot
   ask-stack node e s = symbols-evolve p e (pushed node s) .stack
 
   pub prove-ensures : (node : ℕ) (e : RExpr) (s : SolverState) → Same s (closeGoal bodies (askGoal bodies p node e s))
-  unfolding closeGoal _⨟_ told
+  unfolding closeGoal endCheck _⨟_ told
   prove-ensures node e s = pop-undoes-push node s _ (ask-stack node e s)
 
   pub prove-model-ensures : (node : ℕ) (e : RExpr) (s : SolverState) → Same s (closeGoal bodies (askModel bodies (askGoal bodies p node e s)))
-  unfolding closeGoal askModel _⨟_ told
+  unfolding closeGoal endCheck askModel _⨟_ told
   prove-model-ensures node e s = pop-undoes-push node s _ (ask-stack node e s)
 
   -- what entering a node and Pop keep, SetContext keeps
@@ -173,7 +173,7 @@ module _ (p : Program) where
   set-unrepeated node s u = set-keeps p Unrepeated enter-unrepeated pop-unrepeated node s u
 
   pub ask-unrepeated : (node : ℕ) (e : RExpr) (s : SolverState) → Unrepeated s → Unrepeated (askGoal bodies p node e s)
-  unfolding askGoal assumeNot _⨟_
+  unfolding askGoal check assumeNot _⨟_
   ask-unrepeated node e s u =
       told-unrepeated _ _ (told-unrepeated _ _ (told-unrepeated _ _ (symbols-unrepeated p e _ (push-unrepeated node s u))))
 
@@ -182,5 +182,5 @@ unfolding askModel
 model-unrepeated s u = told-unrepeated _ s u
 
 pub close-unrepeated : (s : SolverState) → Unrepeated s → Unrepeated (closeGoal bodies s)
-unfolding closeGoal _⨟_
+unfolding closeGoal endCheck _⨟_
 close-unrepeated s u = pop-unrepeated _ (told-unrepeated _ s u)

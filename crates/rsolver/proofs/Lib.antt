@@ -11,3 +11,4 @@ pub mod AgreeContext
 pub mod Contracts
 pub mod ContractsWalk
 pub mod ContractsContext
+pub mod Pops
