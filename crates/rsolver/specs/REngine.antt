@@ -43,7 +43,7 @@ module _ {S : Type 0} (M : Methods S) where
   unfoldable pub assumeNot : RExpr → Step S
   assumeNot e s = M .send (AssumeNot e (M .declaredCount s)) s
 
-  -- SolverState.Prove, of e.ToSExpr(LiteralMapper()): up to the check; behind it GetModel, where the reply asks for it; its last statement
+  -- state.Prove(e.ToSExpr(LiteralMapper())): up to the check; behind it GetModel, where the reply asks for it; and its last statement
   unfoldable pub check : RExpr → Step S
   check e = M .send Push ⨟ assumeNot e ⨟ M .send CheckSat
 
@@ -139,10 +139,10 @@ module _ {S : Type 0} (M : Methods S) where
     unfoldable pub setContext : ℕ → Step S
     setContext node s = adjustContext (depth p node) node (popTimes (M .stackLength s - depth p node) s)
 
-    -- REngine.Prove behind SetContext, up to SolverState.Prove's check
+    -- Prove behind SetContext, up to the check in state.Prove
     unfoldable pub askGoal : ℕ → RExpr → Step S
     askGoal node e = M .push node ⨟ declareNewSymbols e ⨟ check e
 
-  -- the end of both: a pop of the solver alone, and one of the state
+  -- the end of both: in state.Prove a pop of the solver alone, and state.Pop
   unfoldable pub closeGoal : Step S
   closeGoal = endCheck ⨟ M .pop

@@ -64,7 +64,7 @@ unfoldable pub pushed : ℕ → Step SolverState
 pushed memo s =
     state (record { memo = memo; decls = s .declarations; names = s .additionalDeclaredNames } ∷ s .stack) (s .declarations) (s .additionalDeclaredNames) (s .missing) (s .sent ++ (Push ∷ []))
 
--- Pop is asked of a stack that is not empty; the first line only makes the step total, and is never met: see bodiesOr
+-- Pop is asked of a stack that is not empty; the first line only makes the step total, and is never met (bodiesOr, below)
 unfoldable pub popTo : List StackItem → Step SolverState
 popTo [] s = state [] [] [] (s .missing) (s .sent ++ (Pop ∷ []))
 popTo (item ∷ items) s = state items (item .decls) (item .names) (s .missing) (s .sent ++ (Pop ∷ []))
@@ -108,12 +108,12 @@ bodies =
       miss = missed;
     }
 
--- the bodies with that Pop, which proves that none is asked of an empty stack (`Seen.pops` in solvers/specs/StackRule): whatever the step, they do the same
+-- the bodies with that Pop. Whatever `wrong` is, they do the same (`Seen.pops` in solvers/specs/StackRule): so no Pop finds an empty stack
 abbrev pub bodiesOr : (wrong : Step SolverState) → Methods SolverState
 bodiesOr wrong = withPop (poppedOr wrong) bodies
 
--- Valid(): stack.Length() + 1 == smtEngine.CommandStacks.Length(), where the assertion stack that reads what was sent is CommandStacks.
--- `inner` is 0, but within SolverState.Prove 1: it pushes a level of the solver alone, and pops it again.
+-- Valid(): stack.Length() + 1 == smtEngine.CommandStacks.Length(). The assertion stack, when it has read what was sent, is CommandStacks.
+-- `inner` is 0, and 1 within SolverState.Prove, which pushes a level of the solver alone and pops it at its end.
 pub record Valid (inner : ℕ) (s : SolverState) : Type 0 where
   pub commandStacks : Stack
   pub reads : read (script (s .sent)) ≡ live commandStacks

@@ -13,10 +13,10 @@ use Rattle.book.specs.Program.{path, pathUp, depth}
 use Rattle.book.specs.Decode.{term, program}
 use Rattle.book_test.specs.BookTest.{bookTest}
 use Rattle.solver_expr.proofs.Clean.{CleanR}
-use Rattle.smt_engines.specs.Reader.{read, height}
+use Rattle.smt_engines.specs.Reader.{read}
 use Rattle.rsolver.specs.Step.{Step, _⨟_}
 use Rattle.rsolver.specs.SolverState.{SolverState, newSolver, poppedOr, bodies, bodiesOr, Valid}
-use Rattle.rsolver.specs.LevelState.{LevelState, levelled, push, send}
+use Rattle.rsolver.specs.LevelState.{push, send}
 use Rattle.rsolver.specs.REngine.{assumeNot, askModel}
 use Rattle.rsolver.proofs.Declares.{symbols-d}
 use Rattle.rsolver.proofs.Agree.{agree-length, agree-missing}
@@ -28,10 +28,9 @@ use Rattle.solvers.specs.Calls.{Call, moveTo, askFor, replyWith, modelWi
 use Rattle.solvers.specs.Rule.{standing, goalState, questionLevels, openQuestions, Present, present, mustLive, Trace, after, start, run}
 use Rattle.solvers.specs.Bodies.{onReply, doCall, doIfAccepted, doFrom, doAll, doAllOr}
 use Rattle.solvers.specs.StackRule.{StackRule}
-use Rattle.solvers.proofs.Good.{Good}
 use Rattle.solvers.proofs.Ladders.{test-not20}
 use Rattle.solvers.proofs.Standing.{standing-stack}
-use Rattle.solvers.proofs.Questions.{Asks, Fits, stateFor, stateAt, OpenFor, Kept, denial-missing}
+use Rattle.solvers.proofs.Questions.{Asks, stateFor, stateAt, OpenFor, Kept, denial-missing}
 use Rattle.solvers.proofs.BadBook.{Refused, run-refused}
 use Rattle.solvers.proofs.Holds.{G, T, kept}
 use Rattle.solvers.proofs.Bodies.{Carries, carries-after, carries-start, carried, bad-from, bodies-send}
@@ -60,7 +59,8 @@ module _ (b : Book) (ok : bookTest b ≡ accepted tt) where
   stack-for w Reply a = omega (arith, goal-length (w .node) (term b (w .goal)) (T b ok (w .goal) (a .0)))
   stack-for w Model a = omega (arith, goal-length (w .node) (term b (w .goal)) (T b ok (w .goal) (a .0)))
 
-  missing-for : (w : Present) (o : Owed) → standing (program b) (path (program b) (w .node)) .missing ≡ false → Asks b w o → stateFor b o w .missing ≡ false
+  missing-for : (w : Present) (o : Owed) → standing (program b) (path (program b) (w .node)) .missing ≡ false → Asks b w o
+      → stateFor b o w .missing ≡ false
   unfolding stateFor
   missing-for w Nothing c a = c
   missing-for w Reply c a = denial-missing (program b) (term b (w .goal)) (goalState (program b) (w .node) (term b (w .goal))) ∙ a .1
@@ -81,7 +81,8 @@ module _ (b : Book) (ok : bookTest b ≡ accepted tt) where
     reply-same true u h = close-same wrong u h
     reply-same false u h = refl
 
-    call-same : (c : Call) (o : Owed) (u : SolverState) → OpenFor o c → openQuestions o ≤ length (u .stack) → doCall (bodiesOr wrong) b c u ≡ doCall bodies b c u
+    call-same : (c : Call) (o : Owed) (u : SolverState) → OpenFor o c → openQuestions o ≤ length (u .stack)
+        → doCall (bodiesOr wrong) b c u ≡ doCall bodies b c u
     unfolding doCall _⨟_
     call-same (moveTo h n) o u q l = set-same wrong (program b) n u
     call-same (askFor h n t) o u q l = λ i. ask-same bodies (poppedOr wrong) (program b) n (term b t) i (set-same wrong (program b) n u i)

@@ -73,13 +73,13 @@ pub record Seen (b : Book) (cs : List Call) : Type 0 where
   pub sent : hostRun b cs .text ≡ run b cs .text
   -- the Dafny bodies, on one SolverState with its sets and their copies, kept from call to call, send the same text (demand 2)
   pub bodies : script (doAll b cs .sent) ≡ run b cs .text
-  -- their stack has an item for each node of the path, and one for an open question, the Push of REngine.Prove
+  -- their stack has an item for each node of the path, and one more while a question is open: the Push of REngine.Prove
   pub stack : length (doAll b cs .stack) ≡ openQuestions (run b cs .due .owed) + depth (program b) (run b cs .due .node)
-  -- Valid(): the solver has one level more than their stack; for an open question another, as they are within SolverState.Prove
+  -- Valid(): the solver has one level more than their stack; and another while a question is open, for they are within SolverState.Prove
   pub valid : Valid (openQuestions (run b cs .due .owed)) (doAll b cs)
-  -- Pop's `requires stack.Cons?`: none is asked of an empty stack, for whatever it did there, the bodies would do the same
+  -- Pop's `requires stack.Cons?`: whatever a Pop of an empty stack did, the bodies would do the same, so there is none
   pub pops : (wrong : Step SolverState) → doAllOr wrong b cs ≡ doAll b cs
-  -- `expect axiom in axiomMap` never fails
+  -- `expect axiom in axiomMap` has never failed
   pub expects : doAll b cs .missing ≡ false
 
 -- ---- NO DEFINITION IS EVER AT ITS END, on a book that passes the test
