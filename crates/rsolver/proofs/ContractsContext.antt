@@ -108,9 +108,13 @@ module _ (p : Program) where
     depth-node n = ap (λ ns. suc (length ns)) (path-fuel n _ (nodeAt p (suc n) .parent) (smaller n) (le-refl _))
 
   -- REngine.Prove behind SetContext: when it is closed, all is as it was, whether or not a model was asked for
-  pub ask-stack : (node : ℕ) (e : RExpr) (s : SolverState) → askGoal bodies p node e s .stack ≡ pushed node s .stack
+  ask-stack : (node : ℕ) (e : RExpr) (s : SolverState) → askGoal bodies p node e s .stack ≡ pushed node s .stack
   unfolding askGoal check _⨟_ told assumeNot
   ask-stack node e s = symbols-evolve p e (pushed node s) .stack
+
+  pub ask-length : (node : ℕ) (e : RExpr) (s : SolverState) → 0 < length (askGoal bodies p node e s .stack)
+  unfolding pushed
+  ask-length node e s = rw (ask-stack node e s) (omega arith)
 
   pub prove-ensures : (node : ℕ) (e : RExpr) (s : SolverState) → Same s (closeGoal bodies (askGoal bodies p node e s))
   unfolding closeGoal endCheck _⨟_ told

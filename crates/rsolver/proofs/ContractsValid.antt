@@ -23,7 +23,7 @@ use Rattle.rsolver.specs.Step.{Step, skip, _⨟_, for, doUnless, unless}
 use Rattle.rsolver.specs.Methods.{Marker}
 use Rattle.rsolver.specs.SolverState.{StackItem, SolverState, newSolver, pushed, popTo, popped, told, marked, named, missed, bodies, Valid}
 use Rattle.rsolver.specs.REngine.{withConstants, declareType, declareConstant, declareFunction, declareLiteral, assume, assumeNot, check, askModel, endCheck, declareNewTypes, declareTypeOf, sendAxiom, includeAxiom, declareOperator, declareSymbols, declareAllSymbols, declarePatternSymbols, walk, declareNewSymbols, enter, adjustContext, setContext, askGoal, closeGoal}
-use Rattle.rsolver.proofs.ContractsContext.{pop-length, ask-stack, adjust-keeps, set-keeps}
+use Rattle.rsolver.proofs.ContractsContext.{pop-length, ask-length, adjust-keeps, set-keeps}
 
 -- Valid, and each command so far is one line
 pub record ValidLines (inner : ℕ) (s : SolverState) : Type 0 where
@@ -282,15 +282,11 @@ module _ (p : Program) (clean-axioms : (k : ℕ) → EveryTerm cleanly (axiomAt 
   unfolding askGoal _⨟_
   ask-valid node e h s v = check-valid e h _ (symbols-valid e h _ (push-valid node s v))
 
-  asked-long : (node : ℕ) (e : RExpr) (s : SolverState) → 0 < length (askGoal bodies p node e s .stack)
-  unfolding pushed
-  asked-long node e s = rw (ask-stack p node e s) (omega arith)
-
   -- to its end, without a model and with one
   pub prove-valid : (node : ℕ) (e : RExpr) → CleanR e → (s : SolverState) → ValidLines 0 s → ValidLines 0 (closeGoal bodies (askGoal bodies p node e s))
-  prove-valid node e h s v = close-valid _ (asked-long node e s) (ask-valid node e h s v)
+  prove-valid node e h s v = close-valid _ (ask-length p node e s) (ask-valid node e h s v)
 
   pub prove-model-valid : (node : ℕ) (e : RExpr) → CleanR e → (s : SolverState)
       → ValidLines 0 s → ValidLines 0 (closeGoal bodies (askModel bodies (askGoal bodies p node e s)))
   unfolding askModel told
-  prove-model-valid node e h s v = close-valid _ (asked-long node e s) (model-valid _ (ask-valid node e h s v))
+  prove-model-valid node e h s v = close-valid _ (ask-length p node e s) (model-valid _ (ask-valid node e h s v))

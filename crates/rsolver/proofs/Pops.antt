@@ -19,8 +19,8 @@ use Rattle.smt_engines.specs.Command.{Pop}
 use Rattle.rsolver.specs.Step.{Step, skip, _⨟_, for, doUnless, unless, doEither, either}
 use Rattle.rsolver.specs.Methods.{constant, function, axiom′, Methods, withPop}
 use Rattle.rsolver.specs.SolverState.{StackItem, SolverState, isTop, popTo, popped, popToOr, poppedOr, told, bodies, bodiesOr}
-use Rattle.rsolver.specs.REngine.{withConstants, declareType, declareConstant, declareFunction, declareLiteral, assume, assumeNot, check, endCheck, declareNewTypes, declareTypeOf, sendAxiom, includeAxiom, declareOperator, declareSymbols, declareAllSymbols, declarePatternSymbols, walk, declareNewSymbols, enter, adjustContext, popTimes, setContext, askGoal, closeGoal}
-use Rattle.rsolver.proofs.ContractsContext.{pop-length}
+use Rattle.rsolver.specs.REngine.{withConstants, declareType, declareConstant, declareFunction, declareLiteral, assume, assumeNot, check, askModel, endCheck, declareNewTypes, declareTypeOf, sendAxiom, includeAxiom, declareOperator, declareSymbols, declareAllSymbols, declarePatternSymbols, walk, declareNewSymbols, enter, adjustContext, popTimes, setContext, askGoal, closeGoal}
+use Rattle.rsolver.proofs.ContractsContext.{pop-length, ask-length}
 
 -- ---- the walk never pops: methods that differ in Pop alone take the same steps
 module _ {S : Type 0} (M : Methods S) (pop : Step S) where
@@ -106,6 +106,11 @@ module _ (wrong : Step SolverState) where
       at [] h = absurd (not-suc-le-zero h)
       at (item ∷ items) h = refl
 
+  -- the end of Prove
+  pub close-same : (s : SolverState) → 0 < length (s .stack) → closeGoal (bodiesOr wrong) s ≡ closeGoal bodies s
+  unfolding closeGoal endCheck _⨟_ told
+  close-same s h = pop-same (told Pop s) h
+
   module _ (p : Program) where
     pop-times-same : (n : ℕ) (s : SolverState) → n ≤ length (s .stack) → popTimes (bodiesOr wrong) p n s ≡ popTimes bodies p n s
     unfolding popTimes
@@ -143,7 +148,16 @@ module _ (wrong : Step SolverState) where
         ap (adjustContext (bodiesOr wrong) p (depth p node) node) (pop-times-same (length (s .stack) - depth p node) s (omega arith))
         ∙ adjust-same (depth p node) node (popTimes bodies p (length (s .stack) - depth p node) s)
 
-  -- the end of Prove
-  pub close-same : (s : SolverState) → 0 < length (s .stack) → closeGoal (bodiesOr wrong) s ≡ closeGoal bodies s
-  unfolding closeGoal endCheck _⨟_ told
-  close-same s h = pop-same (told Pop s) h
+    -- Prove to its end, without a model and with one
+    pub prove-same : (node : ℕ) (e : RExpr) (s : SolverState)
+        → closeGoal (bodiesOr wrong) (askGoal (bodiesOr wrong) p node e s) ≡ closeGoal bodies (askGoal bodies p node e s)
+    prove-same node e s =
+        ap (λ (f : Step SolverState). closeGoal (bodiesOr wrong) (f s)) (ask-same bodies (poppedOr wrong) p node e)
+        ∙ close-same (askGoal bodies p node e s) (ask-length p node e s)
+
+    pub prove-model-same : (node : ℕ) (e : RExpr) (s : SolverState)
+        → closeGoal (bodiesOr wrong) (askModel (bodiesOr wrong) (askGoal (bodiesOr wrong) p node e s)) ≡ closeGoal bodies (askModel bodies (askGoal bodies p node e s))
+    unfolding askModel told
+    prove-model-same node e s =
+        ap (λ (f : Step SolverState). closeGoal (bodiesOr wrong) (askModel (bodiesOr wrong) (f s))) (ask-same bodies (poppedOr wrong) p node e)
+        ∙ close-same (askModel bodies (askGoal bodies p node e s)) (ask-length p node e s)
