@@ -12,7 +12,7 @@ use Rattle.smt_engines.specs.Command.{Push, Pop, CheckSat, GetModel}
 use Rattle.rsolver.specs.Step.{Step, _⨟_, doEither, either}
 use Rattle.rsolver.specs.LevelState.{LevelState, levelled, push, pop}
 use Rattle.rsolver.specs.SolverState.{SolverState, bodies, pushed, popped}
-use Rattle.rsolver.specs.REngine.{enter, adjustContext, popTimes, setContext, askGoal, askModel, closeGoal}
+use Rattle.rsolver.specs.REngine.{check, askModel, endCheck, enter, adjustContext, popTimes, setContext, askGoal, closeGoal}
 use Rattle.rsolver.proofs.Placed.{placed, PlacedProgram}
 use Rattle.rsolver.proofs.Agree.{Agree, agree-length, agree-top, agree-push, agree-pop, agree-send}
 use Rattle.rsolver.proofs.AgreeWalk.{Keeps, skip-k, then-k, unless-k, Inside, send-k, assume-k, assume-not-k, symbols-k}
@@ -64,7 +64,7 @@ module _ {p : Program} (P : PlacedProgram p) where
 
   pub agree-ask : {s : LevelState} {t : SolverState} (node : ℕ) (e : RExpr) → EveryR (placed p) e → Agree p s t
       → Agree p (askGoal (levelled p) p node e s) (askGoal bodies p node e t)
-  unfolding askGoal _⨟_
+  unfolding askGoal check _⨟_
   agree-ask node e h a =
       then-k (symbols-k p P e h) (then-k (send-k p Push) (then-k (assume-not-k p e) (send-k p CheckSat))) .keeps _ _ (push-inside a node) .agree
 
@@ -74,5 +74,5 @@ module _ {p : Program} {s : LevelState} {t : SolverState} (a : Agree p s t) wher
   agree-model = agree-send a GetModel
 
   pub agree-close : Agree p (closeGoal (levelled p) s) (closeGoal bodies t)
-  unfolding closeGoal _⨟_
+  unfolding closeGoal endCheck _⨟_
   agree-close = agree-pop (agree-send a Pop)

@@ -14,7 +14,7 @@ use Rattle.smt_engines.specs.Command.{Command}
 use Rattle.rsolver.specs.Step.{_⨟_}
 use Rattle.rsolver.specs.Methods.{Marker, type, constant, function}
 use Rattle.rsolver.specs.SolverState.{sameMarker, isIn, StackItem, SolverState, newSolver, isTop, pushed, popTo, popped, told, marked, named, bodies}
-use Rattle.rsolver.specs.REngine.{declareType, declareConstant, declareFunction, declareLiteral, assume, assumeNot}
+use Rattle.rsolver.specs.REngine.{declareType, declareConstant, declareFunction, declareLiteral, assume, assumeNot, check, askModel, endCheck}
 use Rattle.rsolver.proofs.Sets.{marker-eq, with-list, in-with}
 
 -- the constructor
@@ -140,3 +140,27 @@ pub declare-literal-ensures : (t : ℕ) (l : Literal) (s : SolverState) → Name
 unfolding declareLiteral _⨟_ told
 declare-literal-ensures t l s =
     let r = name-ensures (literalName l) (told _ s) in record { stack = r .stack; declarations = r .declarations; names = r .names; list = r .list }
+
+-- SolverState.Prove, of every state: also of the one that has the goal's declarations. Each of its parts alone, so that it holds while a
+-- reply or a model is owed; and the whole of it, without a model and with one
+same-again : {s t u : SolverState} → Same s t → Same t u → Same s u
+same-again a b =
+    record { stack = b .stack ∙ a .stack; declarations = b .declarations ∙ a .declarations; names = b .names ∙ a .names }
+
+pub check-ensures : (e : RExpr) (s : SolverState) → Same s (check bodies e s)
+unfolding check _⨟_
+check-ensures e s = same-again (told-ensures _ s) (same-again (assume-not-ensures e _) (told-ensures _ _))
+
+pub model-ensures : (s : SolverState) → Same s (askModel bodies s)
+unfolding askModel
+model-ensures s = told-ensures _ s
+
+pub end-ensures : (s : SolverState) → Same s (endCheck bodies s)
+unfolding endCheck
+end-ensures s = told-ensures _ s
+
+pub solver-prove-ensures : (e : RExpr) (s : SolverState) → Same s (endCheck bodies (check bodies e s))
+solver-prove-ensures e s = same-again (check-ensures e s) (end-ensures _)
+
+pub solver-prove-model-ensures : (e : RExpr) (s : SolverState) → Same s (endCheck bodies (askModel bodies (check bodies e s)))
+solver-prove-model-ensures e s = same-again (check-ensures e s) (same-again (model-ensures _) (end-ensures _))

@@ -1,5 +1,5 @@
 -- The contracts of RSolver.dfy's AdjustContext, SetContext and Prove, of the bodies' state, for every program.
-use Prim.Native.Nat.{ℕ, zero, suc, _-_, _≤_}
+use Prim.Native.Nat.{ℕ, zero, suc, _-_, _≤_, _<_}
 use native.Mathlib.Nat.{le-refl}
 use native.Mathlib.Omega.{arith}
 use mathlib.Core.Path.{_≡_, refl, ap, _∙_}
@@ -15,7 +15,7 @@ use Rattle.book.specs.Program.{Program, nodeAt, pathUp, path, depth}
 use Rattle.smt_engines.specs.Command.{Command}
 use Rattle.rsolver.specs.Step.{Step, skip, _⨟_, doUnless, unless, doEither, either}
 use Rattle.rsolver.specs.SolverState.{StackItem, SolverState, newSolver, isTop, pushed, popTo, popped, told, bodies}
-use Rattle.rsolver.specs.REngine.{assume, assumeNot, declareNewSymbols, enter, adjustContext, popTimes, setContext, askGoal, askModel, closeGoal}
+use Rattle.rsolver.specs.REngine.{assume, assumeNot, check, askModel, endCheck, declareNewSymbols, enter, adjustContext, popTimes, setContext, askGoal, closeGoal}
 use Rattle.rsolver.proofs.Contracts.{Same, push-ensures, pop-undoes-push, assume-ensures, memo-top}
 use Rattle.rsolver.proofs.ContractsWalk.{symbols-evolve, NoneTwice, Unrepeated, symbols-unrepeated}
 
@@ -107,23 +107,27 @@ module _ (p : Program) where
     unfolding depth path pathUp
     depth-node n = ap (λ ns. suc (length ns)) (path-fuel n _ (nodeAt p (suc n) .parent) (smaller n) (le-refl _))
 
-  -- Prove: when it is closed, all is as it was, whether or not a model was asked for
+  -- REngine.Prove behind SetContext: when it is closed, all is as it was, whether or not a model was asked for
   ask-stack : (node : ℕ) (e : RExpr) (s : SolverState) → askGoal bodies p node e s .stack ≡ pushed node s .stack
-  unfolding askGoal _⨟_ told assumeNot
+  unfolding askGoal check _⨟_ told assumeNot
   ask-stack node e s = symbols-evolve p e (pushed node s) .stack
 
+  pub ask-length : (node : ℕ) (e : RExpr) (s : SolverState) → 0 < length (askGoal bodies p node e s .stack)
+  unfolding pushed
+  ask-length node e s = rw (ask-stack node e s) (omega arith)
+
   pub prove-ensures : (node : ℕ) (e : RExpr) (s : SolverState) → Same s (closeGoal bodies (askGoal bodies p node e s))
-  unfolding closeGoal _⨟_ told
+  unfolding closeGoal endCheck _⨟_ told
   prove-ensures node e s = pop-undoes-push node s _ (ask-stack node e s)
 
   pub prove-model-ensures : (node : ℕ) (e : RExpr) (s : SolverState) → Same s (closeGoal bodies (askModel bodies (askGoal bodies p node e s)))
-  unfolding closeGoal askModel _⨟_ told
+  unfolding closeGoal endCheck askModel _⨟_ told
   prove-model-ensures node e s = pop-undoes-push node s _ (ask-stack node e s)
 
-  -- what entering a node and Pop keep, SetContext keeps
+  -- what entering a node and Pop, of a stack that is not empty, keep, SetContext keeps
   module _ (P : SolverState → Type 0) (enters : (node : ℕ) (s : SolverState) → P s → P (enter bodies p node s))
-      (pops : (s : SolverState) → P s → P (popped s)) where
-    adjust-keeps : (d node : ℕ) (s : SolverState) → P s → P (adjustContext bodies p d node s)
+      (pops : (s : SolverState) → 0 < length (s .stack) → P s → P (popped s)) where
+    pub adjust-keeps : (d node : ℕ) (s : SolverState) → P s → P (adjustContext bodies p d node s)
     unfolding adjustContext skip
     adjust-keeps zero node s h = h
     adjust-keeps (suc d) node s h = at (λ t i. enters node _ (adjust-keeps d (nodeAt p node .parent) t i)) (way d node s)
@@ -132,16 +136,16 @@ module _ (p : Program) where
             → {t : SolverState} → Way d node s t → P t
         at ih (short i) = ih s h
         at ih (there i e) = h
-        at ih (other i) = ih (popped s) (pops s h)
+        at ih (other i) = ih (popped s) (pops s (omega arith) h)
 
-    pop-times-keeps : (n : ℕ) (s : SolverState) → P s → P (popTimes bodies p n s)
+    pop-times-keeps : (n : ℕ) (s : SolverState) → n ≤ length (s .stack) → P s → P (popTimes bodies p n s)
     unfolding popTimes
-    pop-times-keeps zero s h = h
-    pop-times-keeps (suc n) s h = pop-times-keeps n (popped s) (pops s h)
+    pop-times-keeps zero s l h = h
+    pop-times-keeps (suc n) s l h = pop-times-keeps n (popped s) (omega (arith, pop-length s)) (pops s (omega arith) h)
 
     pub set-keeps : (node : ℕ) (s : SolverState) → P s → P (setContext bodies p node s)
     unfolding setContext
-    set-keeps node s h = adjust-keeps (depth p node) node _ (pop-times-keeps (length (s .stack) - depth p node) s h)
+    set-keeps node s h = adjust-keeps (depth p node) node _ (pop-times-keeps (length (s .stack) - depth p node) s (omega arith) h)
 
 -- ---- nothing stands twice
 pub new-unrepeated : Unrepeated newSolver
@@ -170,10 +174,10 @@ module _ (p : Program) where
   enter-unrepeated node s u = told-unrepeated _ _ (symbols-unrepeated p _ _ (push-unrepeated node s u))
 
   pub set-unrepeated : (node : ℕ) (s : SolverState) → Unrepeated s → Unrepeated (setContext bodies p node s)
-  set-unrepeated node s u = set-keeps p Unrepeated enter-unrepeated pop-unrepeated node s u
+  set-unrepeated node s u = set-keeps p Unrepeated enter-unrepeated (λ t i. pop-unrepeated t) node s u
 
   pub ask-unrepeated : (node : ℕ) (e : RExpr) (s : SolverState) → Unrepeated s → Unrepeated (askGoal bodies p node e s)
-  unfolding askGoal assumeNot _⨟_
+  unfolding askGoal check assumeNot _⨟_
   ask-unrepeated node e s u =
       told-unrepeated _ _ (told-unrepeated _ _ (told-unrepeated _ _ (symbols-unrepeated p e _ (push-unrepeated node s u))))
 
@@ -182,5 +186,5 @@ unfolding askModel
 model-unrepeated s u = told-unrepeated _ s u
 
 pub close-unrepeated : (s : SolverState) → Unrepeated s → Unrepeated (closeGoal bodies s)
-unfolding closeGoal _⨟_
+unfolding closeGoal endCheck _⨟_
 close-unrepeated s u = pop-unrepeated _ (told-unrepeated _ s u)

@@ -162,16 +162,21 @@ module _ (p : Program) where
   walk-g zero e x = skip-g
   walk-g (suc fuel) e x = symbols-in-g _ (λ cond y. walk-g fuel cond y) e x
 
-  symbols-g : (e : RExpr) → Growing (declareNewSymbols bodies p e)
-  unfolding declareNewSymbols
-  symbols-g e = walk-g _ e []
+  -- DeclareNewSymbols, with every `exclude` and every fuel: ensures state.Evolves()
+  pub walk-evolves : (fuel : ℕ) (e : RExpr) (exclude : List ℕ) (s : SolverState) → Evolves s (walk bodies p fuel e exclude s)
+  walk-evolves fuel e exclude s = walk-g fuel e exclude s .evolves
 
-  -- DeclareNewSymbols: ensures state.Evolves()
+  pub walk-unrepeated : (fuel : ℕ) (e : RExpr) (exclude : List ℕ) (s : SolverState) → Unrepeated s → Unrepeated (walk bodies p fuel e exclude s)
+  walk-unrepeated fuel e exclude s u = walk-g fuel e exclude s .unrepeated u
+
+  -- with nothing excluded, as AdjustContext and Prove call it
   pub symbols-evolve : (e : RExpr) (s : SolverState) → Evolves s (declareNewSymbols bodies p e s)
-  symbols-evolve e s = symbols-g e s .evolves
+  unfolding declareNewSymbols
+  symbols-evolve e s = walk-evolves _ e [] s
 
   pub symbols-unrepeated : (e : RExpr) (s : SolverState) → Unrepeated s → Unrepeated (declareNewSymbols bodies p e s)
-  symbols-unrepeated e s u = symbols-g e s .unrepeated u
+  unfolding declareNewSymbols
+  symbols-unrepeated e s u = walk-unrepeated _ e [] s u
 
 -- DeclareNewTypes: ensures state.Evolves()
 pub types-evolve : (typ : SType) (s : SolverState) → Evolves s (declareNewTypes bodies typ s)

@@ -11,3 +11,5 @@ pub mod AgreeContext
 pub mod Contracts
 pub mod ContractsWalk
 pub mod ContractsContext
+pub mod ContractsValid
+pub mod Pops

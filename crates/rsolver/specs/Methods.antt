@@ -22,3 +22,20 @@ pub record Methods (S : Type 0) : Type 0 where
   pub addDeclarationMarker : Marker → Step S
   pub addName : ℕ → Text → Step S  -- the literal term that declares a name, and the name
   pub miss : Step S  -- an axiom was looked up that is not in axiomMap
+
+-- the same methods, but for Pop
+abbrev pub withPop : {S : Type 0} → Step S → Methods S → Methods S
+withPop pop M =
+    record {
+      stackLength = M .stackLength;
+      isTopMemo = M .isTopMemo;
+      isDeclared = M .isDeclared;
+      isNamed = M .isNamed;
+      declaredCount = M .declaredCount;
+      push = M .push;
+      pop = pop;
+      send = M .send;
+      addDeclarationMarker = M .addDeclarationMarker;
+      addName = M .addName;
+      miss = M .miss;
+    }

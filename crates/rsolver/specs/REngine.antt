@@ -43,6 +43,16 @@ module _ {S : Type 0} (M : Methods S) where
   unfoldable pub assumeNot : RExpr → Step S
   assumeNot e s = M .send (AssumeNot e (M .declaredCount s)) s
 
+  -- state.Prove(e.ToSExpr(LiteralMapper())): up to the check; behind it GetModel, where the reply asks for it; and its last statement
+  unfoldable pub check : RExpr → Step S
+  check e = M .send Push ⨟ assumeNot e ⨟ M .send CheckSat
+
+  unfoldable pub askModel : Step S
+  askModel = M .send GetModel
+
+  unfoldable pub endCheck : Step S
+  endCheck = M .send Pop
+
   unfoldable pub declareNewTypes : SType → Step S
   declareNewTypes SBool = skip
   declareNewTypes SInt = skip
@@ -129,13 +139,10 @@ module _ {S : Type 0} (M : Methods S) where
     unfoldable pub setContext : ℕ → Step S
     setContext node s = adjustContext (depth p node) node (popTimes (M .stackLength s - depth p node) s)
 
-    -- Prove behind SetContext, up to the check
+    -- Prove behind SetContext, up to the check in state.Prove
     unfoldable pub askGoal : ℕ → RExpr → Step S
-    askGoal node e = M .push node ⨟ declareNewSymbols e ⨟ M .send Push ⨟ assumeNot e ⨟ M .send CheckSat
+    askGoal node e = M .push node ⨟ declareNewSymbols e ⨟ check e
 
-  -- Prove behind the check: GetModel where the reply asks for it, and at last the two pops, of the solver and of the state
-  unfoldable pub askModel : Step S
-  askModel = M .send GetModel
-
+  -- the end of both: in state.Prove a pop of the solver alone, and state.Pop
   unfoldable pub closeGoal : Step S
-  closeGoal = M .send Pop ⨟ M .pop
+  closeGoal = endCheck ⨟ M .pop

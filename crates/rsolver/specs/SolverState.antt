@@ -1,13 +1,15 @@
 -- Solvers.dfy: SolverState as the bodies have it, with sets of markers and names, and copies of both in the stack's items.
-use Prim.Native.Nat.{ℕ, _+_}
+use Prim.Native.Nat.{ℕ, suc, _+_}
+use mathlib.Core.Path.{_≡_}
 use mathlib.Core.Bool.{Bool, true, false, _||_}
 use mathlib.Core.List.{List, [], _∷_, _++_}
 use lib.Dec.{eqb}
 use lib.ListN.{length}
 use Rattle.basics.specs.Text.{Text, same, if_then_else_}
-use Rattle.smt_engines.specs.Command.{Command, Push, Pop}
+use Rattle.smt_engines.specs.Command.{Command, Push, Pop, script}
+use Rattle.smt_engines.specs.Reader.{Stack, live, read, height}
 use Rattle.rsolver.specs.Step.{Step}
-use Rattle.rsolver.specs.Methods.{Marker, type, constant, function, axiom′, Methods}
+use Rattle.rsolver.specs.Methods.{Marker, type, constant, function, axiom′, Methods, withPop}
 
 unfoldable pub sameMarker : Marker → Marker → Bool
 sameMarker (type j) (type k) = eqb j k
@@ -62,13 +64,21 @@ unfoldable pub pushed : ℕ → Step SolverState
 pushed memo s =
     state (record { memo = memo; decls = s .declarations; names = s .additionalDeclaredNames } ∷ s .stack) (s .declarations) (s .additionalDeclaredNames) (s .missing) (s .sent ++ (Push ∷ []))
 
--- Pop is asked of a stack that is not empty; the first line only makes the step total
+-- Pop is asked of a stack that is not empty; the first line only makes the step total, and is never met (bodiesOr, below)
 unfoldable pub popTo : List StackItem → Step SolverState
 popTo [] s = state [] [] [] (s .missing) (s .sent ++ (Pop ∷ []))
 popTo (item ∷ items) s = state items (item .decls) (item .names) (s .missing) (s .sent ++ (Pop ∷ []))
 
 unfoldable pub popped : Step SolverState
 popped s = popTo (s .stack) s
+
+-- Pop with any step at all in place of that line
+unfoldable pub popToOr : (wrong : Step SolverState) → List StackItem → Step SolverState
+popToOr wrong [] s = wrong s
+popToOr wrong (item ∷ items) s = popTo (item ∷ items) s
+
+unfoldable pub poppedOr : (wrong : Step SolverState) → Step SolverState
+poppedOr wrong s = popToOr wrong (s .stack) s
 
 unfoldable pub told : Command → Step SolverState
 told c s = state (s .stack) (s .declarations) (s .additionalDeclaredNames) (s .missing) (s .sent ++ (c ∷ []))
@@ -97,3 +107,14 @@ bodies =
       addName = λ t name. named name;
       miss = missed;
     }
+
+-- the bodies with that Pop. Whatever `wrong` is, they do the same (`Seen.pops` in solvers/specs/StackRule): so no Pop finds an empty stack
+abbrev pub bodiesOr : (wrong : Step SolverState) → Methods SolverState
+bodiesOr wrong = withPop (poppedOr wrong) bodies
+
+-- Valid(): stack.Length() + 1 == smtEngine.CommandStacks.Length(). The assertion stack, when it has read what was sent, is CommandStacks.
+-- `inner` is 0, and 1 within SolverState.Prove, which pushes a level of the solver alone and pops it at its end.
+pub record Valid (inner : ℕ) (s : SolverState) : Type 0 where
+  pub commandStacks : Stack
+  pub reads : read (script (s .sent)) ≡ live commandStacks
+  pub lengths : height commandStacks ≡ inner + suc (length (s .stack))

@@ -11,6 +11,7 @@ use Rattle.book_test.specs.BookTest.{bookTest}
 use Rattle.book_test.proofs.Promise.{promise}
 use Rattle.smt_engines.specs.Command.{Command, script}
 use Rattle.rsolver.specs.Step.{_⨟_}
+use Rattle.rsolver.specs.Methods.{Methods}
 use Rattle.rsolver.specs.SolverState.{SolverState, newSolver, bodies}
 use Rattle.rsolver.specs.LevelState.{LevelState, levelled, fresh}
 use Rattle.rsolver.specs.REngine.{setContext, askGoal}
@@ -31,9 +32,9 @@ use Rattle.solvers.proofs.PlacedBook.{term-placed, program-placed}
 -- ---- a book that passes the test
 module _ (b : Book) (ok : bookTest b ≡ accepted tt) where
   -- the two states that are kept from call to call: the one with levels is where the trace stands, and the one with sets agrees with it
-  record Carries (t : Trace) (u : SolverState) : Type 0 where
-    holds : Holds b ok t
-    agree : Agree (program b) (sending (holds .sent) (stateAt b (t .due))) u
+  pub record Carries (t : Trace) (u : SolverState) : Type 0 where
+    pub holds : Holds b ok t
+    pub agree : Agree (program b) (sending (holds .sent) (stateAt b (t .due))) u
 
   replies-same : (x : Bool) {s : LevelState} {u : SolverState} → Agree (program b) s u → Agree (program b) (onReply (levelled (program b)) b x s) (onReply bodies b x u)
   unfolding onReply
@@ -50,7 +51,7 @@ module _ (b : Book) (ok : bookTest b ≡ accepted tt) where
   does-same (replyWith h true r) g a = replies-same (isUnsat r) a
   does-same (modelWith h r m) g a = agree-close a
 
-  carries-after : (t : Trace) (u : SolverState) → Carries t u → (c : Call) (o : Outcome Written) → Kept b (t .due) c o → Carries (after t c o) (doIfAccepted bodies b c o u)
+  pub carries-after : (t : Trace) (u : SolverState) → Carries t u → (c : Call) (o : Outcome Written) → Kept b (t .due) c o → Carries (after t c o) (doIfAccepted bodies b c o u)
   unfolding doIfAccepted after holds-after
   carries-after t u x c (refused k) h = x
   carries-after t u x c (accepted w) h =
@@ -64,33 +65,37 @@ module _ (b : Book) (ok : bookTest b ≡ accepted tt) where
   carries-from [] t u x = x
   carries-from (c ∷ cs) t u x = carries-from cs _ _ (carries-after t u x c (call b (t .now) c) (kept b ok t (x .holds) c))
 
-  carries-start : Carries start newSolver
+  pub carries-start : Carries start newSolver
   unfolding holds-start start stateAt stateFor present standing path pathUp fresh
   carries-start = record { holds = holds-start b ok; agree = unfold fresh in agree-fresh (program b) }
 
-  good-sent : (cs : List Call) → script (doAll b cs .sent) ≡ run b cs .text
+  pub carried : (cs : List Call) → Carries (run b cs) (doAll b cs)
   unfolding doAll run
+  carried cs = carries-from cs start newSolver carries-start
+
+  good-sent : (cs : List Call) → script (doAll b cs .sent) ≡ run b cs .text
   good-sent cs =
-      let x = carries-from cs start newSolver carries-start in
+      let x = carried cs in
       ap script (sym (agree-sent (x .agree))) ∙ sym (x .holds .spelled)
 
 -- ---- a book that fails it
 module _ (b : Book) (bad : Refused (bookTest b)) where
-  refused-does : (c : Call) (o : Outcome Written) → Refused o → (u : SolverState) → doIfAccepted bodies b c o u ≡ u
-  unfolding doIfAccepted
-  refused-does c (refused k) h u = refl
-  refused-does c (accepted w) h u = absurd h
+  module _ (M : Methods SolverState) where
+    refused-does : (c : Call) (o : Outcome Written) → Refused o → (u : SolverState) → doIfAccepted M b c o u ≡ u
+    unfolding doIfAccepted
+    refused-does c (refused k) h u = refl
+    refused-does c (accepted w) h u = absurd h
 
-  bad-from : (cs : List Call) (t : Trace) (u : SolverState) → doFrom bodies b t cs u ≡ u
-  unfolding doFrom
-  bad-from [] t u = refl
-  bad-from (c ∷ cs) t u =
-      ap (doFrom bodies b (after t c (call b (t .now) c)) cs) (refused-does c (call b (t .now) c) (call-refused b bad (t .now) c) u)
-      ∙ bad-from cs (after t c (call b (t .now) c)) u
+    pub bad-from : (cs : List Call) (t : Trace) (u : SolverState) → doFrom M b t cs u ≡ u
+    unfolding doFrom
+    bad-from [] t u = refl
+    bad-from (c ∷ cs) t u =
+        ap (doFrom M b (after t c (call b (t .now) c)) cs) (refused-does c (call b (t .now) c) (call-refused b bad (t .now) c) u)
+        ∙ bad-from cs (after t c (call b (t .now) c)) u
 
   bad-sent : (cs : List Call) → script (doAll b cs .sent) ≡ run b cs .text
   unfolding doAll run start newSolver script
-  bad-sent cs = ap (λ (u : SolverState). script (u .sent)) (bad-from cs start newSolver) ∙ sym (ap (λ (t : Trace). t .text) (run-refused b bad start cs))
+  bad-sent cs = ap (λ (u : SolverState). script (u .sent)) (bad-from bodies cs start newSolver) ∙ sym (ap (λ (t : Trace). t .text) (run-refused b bad start cs))
 
 pub bodies-send : (b : Book) (cs : List Call) → script (doAll b cs .sent) ≡ run b cs .text
 bodies-send b cs = at (bookTest b) refl

@@ -13,7 +13,7 @@ use Rattle.solver_expr.proofs.Clean.{CleanR}
 use Rattle.smt_engines.specs.Command.{Command, Push, Pop, CheckSat}
 use Rattle.rsolver.specs.Step.{Step, skip, _⨟_, doUnless, unless, doEither, either}
 use Rattle.rsolver.specs.LevelState.{LevelState, levelled, fresh, forget, isTop, push, pop, send}
-use Rattle.rsolver.specs.REngine.{closeGoal, assumeNot, declareNewSymbols, enter, adjustContext, popTimes, setContext, askGoal}
+use Rattle.rsolver.specs.REngine.{assumeNot, check, endCheck, declareNewSymbols, enter, adjustContext, popTimes, setContext, askGoal, closeGoal}
 use Rattle.rsolver.proofs.Declares.{Declares, sent-by, missing-down, symbols-d, assume-not-d}
 use Rattle.rsolver.proofs.Levels.{Grown, forget-grown}
 use Rattle.solvers.specs.Rule.{standing, moveCommands, goalState, goalCommands, denialCommands, questionCommands}
@@ -97,7 +97,7 @@ module _ (p : Program) (G : Good p) where
   -- a question, asked where a state stands
   module _ (n : ℕ) (e : RExpr) (h : CleanR e) where
     pub ask-at : (l : List Command) → askGoal (levelled p) p n e (sending l (standing p (path p n))) ≡ sending (l ++ questionCommands p n e) (assumeNot (levelled p) e (goalState p n e))
-    unfolding askGoal _⨟_ push send goalState questionCommands
+    unfolding askGoal check _⨟_ push send goalState questionCommands
     ask-at l =
         let D = symbols-d p (G .axioms) e h in
         let N = assume-not-d p e h in
@@ -113,7 +113,7 @@ module _ (p : Program) (G : Good p) where
     -- and closed again
     pub close-at : goalState p n e .missing ≡ false → (l : List Command)
         → closeGoal (levelled p) (sending l (assumeNot (levelled p) e (goalState p n e))) ≡ sending (l ++ (Pop ∷ Pop ∷ [])) (standing p (path p n))
-    unfolding closeGoal _⨟_ pop send assumeNot goalState push
+    unfolding closeGoal endCheck _⨟_ pop send assumeNot goalState push
     close-at m l =
         let D = symbols-d p (G .axioms) e h in
         let ns = path p n in

@@ -19,5 +19,6 @@ pub mod Image
 pub mod HostRun
 pub mod PlacedBook
 pub mod Bodies
+pub mod BodiesState
 pub mod Theorem
 pub mod Returned

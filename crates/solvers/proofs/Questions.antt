@@ -27,7 +27,7 @@ use Rattle.solvers.specs.declared.Owed.the-variants.{Nothing, Reply, Mod
 use Rattle.solvers.specs.Session.{Written, resume, moved, asked}
 use Rattle.solvers.specs.Calls.{owes, goalFits, isSession, Call, moveTo, askFor, replyWith, modelWith}
 use Rattle.solvers.specs.Bodies.{doCall}
-use Rattle.solvers.specs.Rule.{standing, goalState, goalCommands, denialCommands, moveCommands, questionCommands, Present, next, mustLive, sessionAt, said}
+use Rattle.solvers.specs.Rule.{standing, goalState, goalCommands, denialCommands, moveCommands, questionCommands, openQuestions, Present, next, mustLive, sessionAt, said}
 use Rattle.book.proofs.Terms.{contexts-length, literals-length}
 use Rattle.solvers.proofs.Good.{Good}
 use Rattle.solvers.proofs.Standing.{sending, standing-stack}
@@ -60,6 +60,13 @@ GoalIn b (askFor h n t) = t < size b terms
 GoalIn b (replyWith h ok r) = Unit {0}
 GoalIn b (modelWith h r m) = Unit {0}
 
+-- an accepted reply or model has a question that is open
+abbrev pub OpenFor : Owed → Call → Type 0
+OpenFor o (moveTo h n) = Unit {0}
+OpenFor o (askFor h n t) = Unit {0}
+OpenFor o (replyWith h ok r) = 0 < openQuestions o
+OpenFor o (modelWith h r m) = 0 < openQuestions o
+
 -- what an accepted call leaves
 pub record Leaves (b : Book) (w : Present) (c : Call) (x : Written) : Type 0 where
   pub commands : x .commands ≡ said b w c
@@ -70,6 +77,7 @@ pub record Leaves (b : Book) (w : Present) (c : Call) (x : Written) : Type 0 whe
   -- the bodies' methods, on a state with levels that is kept from call to call
   pub state : (l : List Command) → doCall (levelled (program b)) b c (sending l (stateAt b w)) ≡ sending (l ++ said b w c) (stateAt b (next w c))
   pub goalIn : GoalIn b c
+  pub openFor : OpenFor (w .owed) c
 
 abbrev pub Kept : Book → Present → Call → Outcome Written → Type 0
 Kept b w c (refused k) = k ≡ 20 → ⊥

@@ -30,12 +30,12 @@ use Rattle.solvers.specs.declared.Session.{Session}
 use Rattle.solvers.specs.Session.{Written, ProofResult, Proved, Unproved, session, moved, asked, move, ask, closed, replied, isUnsat, giveReply, giveModel}
 use Rattle.solvers.specs.Calls.{owes, isSession, Host, fitting, moveCall, askCall, replyCall, modelCall, Call, moveTo, askFor, replyWith, modelWith, call}
 use Rattle.solvers.specs.Bodies.{doCall, onReply}
-use Rattle.solvers.specs.Rule.{levelsOf, goalLevels, levelsFor, goalState, moveCommands, questionCommands, Present, present, nextReply, next, mustLive, sessionAt, replyCommands, said}
+use Rattle.solvers.specs.Rule.{levelsOf, goalLevels, levelsFor, goalState, moveCommands, questionCommands, openQuestions, Present, present, nextReply, next, mustLive, sessionAt, replyCommands, said}
 use Rattle.solvers.proofs.Good.{Good}
 use Rattle.solvers.proofs.Ladders.{guarded, passing, ready-not20}
 use Rattle.solvers.proofs.Standing.{sending, Led, travel}
 use Rattle.solvers.proofs.Contexts.{set-context, ask-at, close-at}
-use Rattle.solvers.proofs.Questions.{Asks, Fits, stateFor, stateAt, GoalIn, Leaves, Kept, denial-missing, owes-nothing, owes-reply, owes-model, hears-pops, is-session, arrives, asked-at, goal-clear, hears-question, whole-question}
+use Rattle.solvers.proofs.Questions.{Asks, Fits, stateFor, stateAt, GoalIn, OpenFor, Leaves, Kept, denial-missing, owes-nothing, owes-reply, owes-model, hears-pops, is-session, arrives, asked-at, goal-clear, hears-question, whole-question}
 
 module _ (b : Book) (G : Good (program b)) (T : (t : ℕ) → t < size b terms → CleanR (term b t)) where
   module _ (w : Present) (f : Fits b w) where
@@ -53,6 +53,7 @@ module _ (b : Book) (G : Good (program b)) (T : (t : ℕ) → t < size b terms �
           wholes = L .wholes;
           state = λ l. rw o (set-context (program b) G (w .node) n (f .clear) l);
           goalIn = tt;
+          openFor = tt;
         }
 
     ask-leaves : (h : Host) (n t : ℕ) → n ≤ size b contexts → t < size b terms → w .owed ≡ Nothing
@@ -77,6 +78,7 @@ module _ (b : Book) (G : Good (program b)) (T : (t : ℕ) → t < size b terms �
               ∙ ap {B = LevelState} (λ (cs : List Command). sending cs (assumeNot (levelled (program b)) e (goalState (program b) n e)))
               (append-assoc k (moveCommands (program b) (w .node) n) (questionCommands (program b) n e)));
           goalIn = l;
+          openFor = tt;
         }
 
     -- two pops: back to the node's own levels
@@ -99,11 +101,11 @@ module _ (b : Book) (G : Good (program b)) (T : (t : ℕ) → t < size b terms �
     closes Reply z e a l = rw e (close-at (program b) G (w .node) (term b (w .goal)) (T (w .goal) (a .0)) (a .1) l)
     closes Model z e a l = rw e (close-at (program b) G (w .node) (term b (w .goal)) (T (w .goal) (a .0)) (a .1) l)
 
-    pops-leave : (c : Call) (o : Owed) → owes o Nothing ≡ false → w .owed ≡ o → (r : ProofResult) → GoalIn b c
+    pops-leave : (c : Call) (o : Owed) → owes o Nothing ≡ false → w .owed ≡ o → (r : ProofResult) → GoalIn b c → OpenFor (w .owed) c
         → said b w c ≡ Pop ∷ Pop ∷ [] → next w c ≡ present (w .node) 0 Nothing → doCall (levelled (program b)) b c ≡ closeGoal (levelled (program b))
         → Leaves b w c (closed (sessionAt b w) r)
     unfolding closed sessionAt present
-    pops-leave c o z e r g says due does =
+    pops-leave c o z e r g q says due does =
         record {
           commands = sym says;
           session = rw due refl;
@@ -112,6 +114,7 @@ module _ (b : Book) (G : Good (program b)) (T : (t : ℕ) → t < size b terms �
           wholes = rw says (more whole-pop (more whole-pop end));
           state = λ l. rw (says, due, does) (closes o z e (subst (Asks b w) e (f .asks)) l);
           goalIn = g;
+          openFor = q;
         }
 
     -- the same levels, with a model owed
@@ -128,13 +131,20 @@ module _ (b : Book) (G : Good (program b)) (T : (t : ℕ) → t < size b terms �
     unfolding askModel send stateAt stateFor present
     asks-model e l = rw e refl
 
+    -- the question is open
+    is-open : (o : Owed) → owes o Nothing ≡ false → w .owed ≡ o → 0 < openQuestions (w .owed)
+    unfolding owes openQuestions
+    is-open Nothing z e = absurd (true≢false z)
+    is-open Reply z e = rw e (omega arith)
+    is-open Model z e = rw e (omega arith)
+
     reply-leaves : (h : Host) (ok : Bool) (r : Text) → w .owed ≡ Reply → Leaves b w (replyWith h ok r) (giveReply (sessionAt b w) ok r)
     unfolding giveReply said next owes
-    reply-leaves h false r e = pops-leave (replyWith h false r) Reply refl e (Unproved r) tt refl refl (unfold doCall in refl)
+    reply-leaves h false r e = pops-leave (replyWith h false r) Reply refl e (Unproved r) tt (is-open Reply refl e) refl refl (unfold doCall in refl)
     reply-leaves h true r e = go (isUnsat r) refl
       where
         go : (x : Bool) → isUnsat r ≡ x → Leaves b w (replyWith h true r) (replied (isUnsat r) (sessionAt b w))
-        go true u = rw u (unfold replied in pops-leave (replyWith h true r) Reply refl e Proved tt (rw u (unfold replyCommands in refl)) (rw u (unfold nextReply in refl)) (unfold doCall in rw u (unfold onReply in refl)))
+        go true u = rw u (unfold replied in pops-leave (replyWith h true r) Reply refl e Proved tt (is-open Reply refl e) (rw u (unfold replyCommands in refl)) (rw u (unfold nextReply in refl)) (unfold doCall in rw u (unfold onReply in refl)))
         go false u = rw u (unfold replied in (record {
           commands = rw u (unfold replyCommands in refl);
           session = rw u (unfold nextReply sessionAt present in refl);
@@ -143,12 +153,13 @@ module _ (b : Book) (G : Good (program b)) (T : (t : ℕ) → t < size b terms �
           wholes = rw u (unfold replyCommands in more whole-model end);
           state = λ l. unfold doCall in rw u (unfold onReply replyCommands nextReply in asks-model e l);
           goalIn = tt;
+          openFor = is-open Reply refl e;
         }))
 
     model-leaves : (h : Host) (r : Text) (m : Option Text) → w .owed ≡ Model → Leaves b w (modelWith h r m) (giveModel (sessionAt b w) r m)
     unfolding giveModel said next owes
-    model-leaves h r none e = pops-leave (modelWith h r none) Model refl e _ tt refl refl (unfold doCall in refl)
-    model-leaves h r (some m) e = pops-leave (modelWith h r (some m)) Model refl e _ tt refl refl (unfold doCall in refl)
+    model-leaves h r none e = pops-leave (modelWith h r none) Model refl e _ tt (is-open Model refl e) refl refl (unfold doCall in refl)
+    model-leaves h r (some m) e = pops-leave (modelWith h r (some m)) Model refl e _ tt (is-open Model refl e) refl refl (unfold doCall in refl)
 
     fitting-kept : (c : Call) (h : Host) (y : Written) → Leaves b w c y → Kept b w c (fitting h y)
     unfolding fitting

@@ -25,6 +25,7 @@ use Rattle.solvers.proofs.Shared.{deepest-shared}
 use Rattle.solvers.proofs.Enough.{levels-length, enough}
 use Rattle.solvers.proofs.HostRun.{host-run}
 use Rattle.solvers.proofs.Bodies.{bodies-send}
+use Rattle.solvers.proofs.BodiesState.{bodies-state, valid-bodies}
 use Rattle.solvers.proofs.Ladders.{test-not20}
 use Rattle.solvers.proofs.Questions.{Asks, Fits, Kept}
 use Rattle.solvers.proofs.BadBook.{rule-bad}
@@ -65,10 +66,15 @@ stack-rule b cs = at (bookTest b) refl
 
 pub seen : (b : Book) (cs : List Call) → Seen b cs
 seen b cs =
+    let s = bodies-state b cs in
     record {
       image = ap (λ (t : HostTrace). t .image) (host-run b cs);
       sent = ap (λ (t : HostTrace). t .text) (host-run b cs);
       bodies = bodies-send b cs;
+      stack = s .stack;
+      valid = valid-bodies b cs (s .stack) (stack-rule b cs);
+      pops = s .pops;
+      expects = s .expects;
     }
 
 pub no-fallback : (b : Book) → bookTest b ≡ accepted tt → NoFallback b

@@ -7,7 +7,7 @@ use Rattle.book.specs.Book.{Book}
 use Rattle.book.specs.Decode.{term, program}
 use Rattle.rsolver.specs.Step.{Step, _⨟_}
 use Rattle.rsolver.specs.Methods.{Methods}
-use Rattle.rsolver.specs.SolverState.{SolverState, newSolver, bodies}
+use Rattle.rsolver.specs.SolverState.{SolverState, newSolver, bodies, bodiesOr}
 use Rattle.rsolver.specs.REngine.{setContext, askGoal, askModel, closeGoal}
 use Rattle.solvers.specs.Session.{Written, isUnsat}
 use Rattle.solvers.specs.Calls.{Call, moveTo, askFor, replyWith, modelWith, call}
@@ -39,3 +39,7 @@ module _ {S : Type 0} (M : Methods S) (b : Book) where
 
 unfoldable pub doAll : Book → List Call → SolverState
 doAll b cs = doFrom bodies b start cs newSolver
+
+-- the same, with the step `wrong` wherever Pop is asked of an empty stack
+unfoldable pub doAllOr : (wrong : Step SolverState) → Book → List Call → SolverState
+doAllOr wrong b cs = doFrom (bodiesOr wrong) b start cs newSolver

@@ -78,6 +78,12 @@ questionLevels Nothing = 0
 questionLevels Reply = 2
 questionLevels Model = 2
 
+-- how many questions are open
+unfoldable pub openQuestions : Owed → ℕ
+openQuestions Nothing = 0
+openQuestions Reply = 1
+openQuestions Model = 1
+
 -- ---- WHAT THE ACCEPTED CALLS ALONE GIVE: the present node, the open question's goal or 0, and what is owed
 pub record Present : Type 0 where
   pub node : ℕ

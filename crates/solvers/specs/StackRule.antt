@@ -15,6 +15,8 @@ use Rattle.book.specs.Book.{Book, terms, size}
 use Rattle.book.specs.Program.{Program, nodeAt, path, depth}
 use Rattle.book.specs.Decode.{termOver, term, program}
 use Rattle.smt_engines.specs.Command.{script}
+use Rattle.rsolver.specs.Step.{Step}
+use Rattle.rsolver.specs.SolverState.{SolverState, Valid}
 use Rattle.rsolver.specs.LevelState.{levelCount, levelled, push}
 use Rattle.rsolver.specs.REngine.{walk, declareNewSymbols}
 use Rattle.solvers.specs.declared.Owed.the-variants.{Nothing}
@@ -23,8 +25,8 @@ use Rattle.solvers.specs.Calls.{Host, Call, moveTo, call}
 use Rattle.smt_engines.specs.Reader.{live, read, height}
 use Rattle.solvers.specs.Image.{writeImage}
 use Rattle.solvers.specs.HostRun.{hostRun}
-use Rattle.solvers.specs.Bodies.{doAll}
-use Rattle.solvers.specs.Rule.{standing, goalState, questionLevels, Present, nodeLevels, mustLive, sessionAt, said, Trace, run, straight}
+use Rattle.solvers.specs.Bodies.{doAll, doAllOr}
+use Rattle.solvers.specs.Rule.{standing, goalState, questionLevels, openQuestions, Present, nodeLevels, mustLive, sessionAt, said, Trace, run, straight}
 
 -- no axiom without a term was looked up on the way to the present node, nor, while a question is open, for its goal
 pub record Complete (b : Book) (w : Present) : Type 0 where
@@ -71,6 +73,14 @@ pub record Seen (b : Book) (cs : List Call) : Type 0 where
   pub sent : hostRun b cs .text ≡ run b cs .text
   -- the Dafny bodies, on one SolverState with its sets and their copies, kept from call to call, send the same text (demand 2)
   pub bodies : script (doAll b cs .sent) ≡ run b cs .text
+  -- their stack has an item for each node of the path, and one more while a question is open: the Push of REngine.Prove
+  pub stack : length (doAll b cs .stack) ≡ openQuestions (run b cs .due .owed) + depth (program b) (run b cs .due .node)
+  -- Valid(): the solver has one level more than their stack; and another while a question is open, for they are within SolverState.Prove
+  pub valid : Valid (openQuestions (run b cs .due .owed)) (doAll b cs)
+  -- Pop's `requires stack.Cons?`: whatever a Pop of an empty stack did, the bodies would do the same, so there is none
+  pub pops : (wrong : Step SolverState) → doAllOr wrong b cs ≡ doAll b cs
+  -- `expect axiom in axiomMap` has never failed
+  pub expects : doAll b cs .missing ≡ false
 
 -- ---- NO DEFINITION IS EVER AT ITS END, on a book that passes the test
 pub record NoFallback (b : Book) : Type 0 where

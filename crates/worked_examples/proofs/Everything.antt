@@ -26,7 +26,7 @@ use Rattle.smt_engines.specs.Reader.{glue, cut, lines, kind, join, dropped, hea
 use Rattle.rsolver.specs.Step.{skip, _⨟_, for, doUnless, unless, doEither, either}
 use Rattle.rsolver.specs.LevelState.{place, literalPlace, joinAt, forget, count, hasName, nameIn, noLevels, fresh, isTop, isDeclaredAt, push, pop, send, declareAt, miss, sentBy}
 use Rattle.rsolver.specs.SolverState.{sameMarker, isIn, with′, newSolver, isTop as isTopItem, pushed, popTo, popped, told, marked, named, missed}
-use Rattle.rsolver.specs.REngine.{withConstants, declareType, declareConstant, declareFunction, declareLiteral, assume, assumeNot, declareNewTypes, declareTypeOf, sendAxiom, includeAxiom, declareOperator, declareSymbols, declareAllSymbols, declarePatternSymbols, walk, declareNewSymbols, enter, adjustContext, popTimes, setContext, askGoal, askModel, closeGoal}
+use Rattle.rsolver.specs.REngine.{withConstants, declareType, declareConstant, declareFunction, declareLiteral, assume, assumeNot, check, askModel, endCheck, declareNewTypes, declareTypeOf, sendAxiom, includeAxiom, declareOperator, declareSymbols, declareAllSymbols, declarePatternSymbols, walk, declareNewSymbols, enter, adjustContext, popTimes, setContext, askGoal, closeGoal}
 use Rattle.rsolver.specs.Trace.{traceLine, traceOf as traceOfPath, printTrace, traceText, traceCall}
 use Rattle.solvers.specs.Session.{textOf, freshSession, resume, moved, asked, move, ask, closed, isUnsat, replied, giveReply, giveModel}
 use Rattle.solvers.specs.Calls.{owes, goalFits, isSession, reasonOf, fitting, moveCall, askCall, replyCall, modelCall, hostOf, call}
@@ -48,7 +48,7 @@ printing = tt
 
 -- the solver's state and engine, and what they send
 unfoldable pub sending : Unit {0}
-unfolding CMD_PUSH CMD_POP CMD_CHECK_SAT CMD_GET_MODEL contextToString assumption declaration commandToString script skip _⨟_ for doUnless unless doEither either place literalPlace joinAt forget count hasName nameIn noLevels fresh isTop isDeclaredAt push pop send declareAt miss sentBy sameMarker isIn with′ newSolver isTopItem pushed popTo popped told marked named missed withConstants declareType declareConstant declareFunction declareLiteral assume assumeNot declareNewTypes declareTypeOf sendAxiom includeAxiom declareOperator declareSymbols declareAllSymbols declarePatternSymbols walk declareNewSymbols enter adjustContext popTimes setContext askGoal askModel closeGoal traceLine traceOfPath printTrace traceText traceCall
+unfolding CMD_PUSH CMD_POP CMD_CHECK_SAT CMD_GET_MODEL contextToString assumption declaration commandToString script skip _⨟_ for doUnless unless doEither either place literalPlace joinAt forget count hasName nameIn noLevels fresh isTop isDeclaredAt push pop send declareAt miss sentBy sameMarker isIn with′ newSolver isTopItem pushed popTo popped told marked named missed withConstants declareType declareConstant declareFunction declareLiteral assume assumeNot check askModel endCheck declareNewTypes declareTypeOf sendAxiom includeAxiom declareOperator declareSymbols declareAllSymbols declarePatternSymbols walk declareNewSymbols enter adjustContext popTimes setContext askGoal closeGoal traceLine traceOfPath printTrace traceText traceCall
 sending = tt
 
 -- the session's calls, lists of them, and the reader of their text
