@@ -15,6 +15,8 @@ pub mod Straight
 pub mod Shared
 pub mod ByBook
 pub mod Enough
+pub mod Behind
+pub mod BehindBodies
 pub mod Image
 pub mod HostRun
 pub mod PlacedBook

@@ -10,13 +10,13 @@ use lib.ListN.{length}
 use Rattle.basics.specs.Lists.{member}
 use Rattle.basics.specs.Buffer.{scratchLeast}
 use Rattle.basics.specs.Outcome.{refused, accepted}
-use Rattle.book.specs.RExpr.{RExpr}
-use Rattle.book.specs.Book.{Book, terms, size}
+use Rattle.book.specs.Book.{Book, terms, contexts, size, field}
 use Rattle.book.specs.Program.{Program, nodeAt, path, depth}
-use Rattle.book.specs.Decode.{termOver, term, program}
+use Rattle.book.specs.Decode.{kinds, termOver, term, program}
 use Rattle.smt_engines.specs.Command.{script}
 use Rattle.rsolver.specs.LevelState.{levelCount, levelled, push}
-use Rattle.rsolver.specs.REngine.{walk, declareNewSymbols}
+use Rattle.rsolver.specs.SolverState.{SolverState, bodies}
+use Rattle.rsolver.specs.REngine.{declareNewSymbols, setContext}
 use Rattle.solvers.specs.declared.Owed.the-variants.{Nothing}
 use Rattle.solvers.specs.Session.{Written, textOf}
 use Rattle.solvers.specs.Calls.{Host, Call, moveTo, call}
@@ -24,6 +24,7 @@ use Rattle.smt_engines.specs.Reader.{live, read, height}
 use Rattle.solvers.specs.Image.{writeImage}
 use Rattle.solvers.specs.HostRun.{hostRun}
 use Rattle.solvers.specs.Bodies.{doAll}
+use Rattle.solvers.specs.Fallbacks.{FuelEnough, Anything, programOr, nodeStateOr, goalStateOr}
 use Rattle.solvers.specs.Rule.{standing, goalState, questionLevels, Present, nodeLevels, mustLive, sessionAt, said, Trace, run, straight}
 
 -- no axiom without a term was looked up on the way to the present node, nor, while a question is open, for its goal
@@ -72,19 +73,31 @@ pub record Seen (b : Book) (cs : List Call) : Type 0 where
   -- the Dafny bodies, on one SolverState with its sets and their copies, kept from call to call, send the same text (demand 2)
   pub bodies : script (doAll b cs .sent) ≡ run b cs .text
 
--- ---- NO DEFINITION IS EVER AT ITS END, on a book that passes the test
+-- ---- NO FALLBACK IS EVER MET, on a book that passes the test: no fuel ends, and nothing behind the end of a list is read (Fallbacks).
+-- That each record of the book stands in its bytes is the promise (book_test/specs/Promise).
 pub record NoFallback (b : Book) : Type 0 where
-  -- a term is what its record says over its children
-  pub terms : (t : ℕ) → t < size b terms → term b t ≡ termOver b (term b) t
+  -- a term is what its record says over its children, and its kind is one of the nine
+  pub children : (t : ℕ) → t < size b terms → term b t ≡ termOver b (term b) t
+  pub kinds : (t : ℕ) → t < size b terms → field b terms t 0 < length kinds
   -- a node's path is the node and its parent's path
   pub paths : (n : ℕ) → path (program b) (suc n) ≡ suc n ∷ path (program b) (nodeAt (program b) (suc n) .parent)
-  -- more fuel changes no walk, at any node and for any goal there
-  pub walks :
-      (n : ℕ) (ns : List ℕ) (e : RExpr) (fuel : ℕ) → length (program b .axioms) < fuel
-      → walk (levelled (program b)) (program b) fuel e [] (push n (standing (program b) ns))
-      ≡ declareNewSymbols (levelled (program b)) (program b) e (push n (standing (program b) ns))
+  -- more fuel changes no walk: in the session's form of the state at any node, and in the bodies' whatever it holds
+  pub walks : (n : ℕ) (ns : List ℕ) → FuelEnough (levelled (program b)) (program b) (push n (standing (program b) ns))
+  pub bodyWalks : (s : SolverState) → FuelEnough bodies (program b) s
   -- the levels have all their places
   pub levels : (ns : List ℕ) → length (standing (program b) ns .levels) ≡ levelCount
+  -- with anything behind the levels, the axioms and the contexts, the state at each node and for each goal there is the same
+  pub nodes : (x : Anything) (n : ℕ) → n ≤ size b contexts → nodeStateOr x (program b) n ≡ standing (program b) (path (program b) n)
+  pub goals :
+      (x : Anything) (n t : ℕ) → n ≤ size b contexts → t < size b terms
+      → goalStateOr x (program b) n (term b t) ≡ goalState (program b) n (term b t)
+  -- and so is what the bodies do from any state: SetContext to a node, and a goal's DeclareNewSymbols
+  pub bodyNodes :
+      (x : Anything) (n : ℕ) → n ≤ size b contexts → (s : SolverState)
+      → setContext bodies (programOr x (program b)) n s ≡ setContext bodies (program b) n s
+  pub bodyGoals :
+      (x : Anything) (t : ℕ) → t < size b terms → (s : SolverState)
+      → declareNewSymbols bodies (programOr x (program b)) (term b t) s ≡ declareNewSymbols bodies (program b) (term b t) s
 
 -- ---- THE DEEPEST NODE THAT BOTH PATHS SHARE
 -- s is the depth of the deepest node that both paths share (the root, of depth 0, is on all); proved of `shared`
