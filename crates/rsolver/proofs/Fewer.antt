@@ -16,7 +16,7 @@ use Rattle.book.specs.Program.{Program, Axiom, axiomAt}
 use Rattle.smt_engines.specs.Command.{Command, Assume}
 use Rattle.rsolver.specs.Step.{Step, skip, _⨟_, for, doUnless, unless}
 use Rattle.rsolver.specs.Methods.{Marker, axiom′, Methods}
-use Rattle.rsolver.specs.REngine.{withConstants, declareType, declareConstant, declareFunction, declareLiteral, assume, declareNewTypes, declareTypeOf, sendAxiom, includeAxiom, declareOperator, declareSymbols, declareAllSymbols, declarePatternSymbols, walk}
+use Rattle.rsolver.specs.REngine.{withConstants, declareType, declareConstant, declareFunction, declareLiteral, assume, declareNewTypes, declareTypeOf, sendAxiom, includeAxiom, declareOperator, declareSymbols, declareAllSymbols, declarePatternSymbols, walk, declareNewSymbols}
 
 -- a step that stays inside and has no more left afterwards
 pub record Fewer {S : Type 0} (Inside : S → Type 0) (left : S → ℕ) (f : Step S) : Type 0 where
@@ -216,3 +216,7 @@ module _ {S : Type 0} {M : Methods S} {p : Program} {Inside : S → Type 0} {lef
   pub fuel-enough : (fuel : ℕ) → length (p .axioms) < fuel → (e : RExpr) (x : List ℕ) (s : S) → Inside s
       → walk M p fuel e x s ≡ walk M p (suc (length (p .axioms))) e x s
   fuel-enough fuel h e x s i = fuel-free (length (p .axioms)) fuel (suc (length (p .axioms))) h (le-refl _) e x s i (C .most s)
+
+  pub symbols-enough : (fuel : ℕ) → length (p .axioms) < fuel → (e : RExpr) (s : S) → Inside s → declareNewSymbols M p e s ≡ walk M p fuel e [] s
+  unfolding declareNewSymbols
+  symbols-enough fuel h e s i = sym (fuel-enough fuel h e [] s i)

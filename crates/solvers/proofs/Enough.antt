@@ -14,9 +14,8 @@ use Rattle.book_test.proofs.Promise.{promise}
 use Rattle.rsolver.specs.LevelState.{levelCount, noLevels, levelled, fresh, push}
 use Rattle.rsolver.specs.Methods.{Methods}
 use Rattle.rsolver.specs.SolverState.{SolverState, bodies}
-use Rattle.rsolver.specs.REngine.{declareNewSymbols}
 use Rattle.rsolver.proofs.Levels.{grown-length}
-use Rattle.rsolver.proofs.Fewer.{Counts, fuel-enough}
+use Rattle.rsolver.proofs.Fewer.{Counts, fuel-enough, symbols-enough}
 use Rattle.rsolver.proofs.Fuel.{counts, body-counts}
 use Rattle.solvers.specs.Rule.{standing}
 use Rattle.solvers.specs.Fallbacks.{FuelEnough}
@@ -30,11 +29,10 @@ levels-length p G (n ∷ ns) = grown-length (grown-at p G n ns) ∙ levels-lengt
 
 -- a form of the state that counts the undeclared axioms has fuel enough
 fuel : {S : Type 0} {M : Methods S} {p : Program} {Inside : S → Type 0} {left : S → ℕ} → Counts M p Inside left → (s : S) → Inside s → FuelEnough M p s
-unfolding declareNewSymbols
 fuel C s i =
     record {
       more = λ e exclude f f′ h h′. fuel-enough C f h e exclude s i ∙ sym (fuel-enough C f′ h′ e exclude s i);
-      own = λ e f h. sym (fuel-enough C f h e [] s i);
+      own = λ e f h. symbols-enough C f h e s i;
     }
 
 -- at every node of a book that passes the test, and for a goal there

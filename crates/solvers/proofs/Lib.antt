@@ -17,6 +17,7 @@ pub mod ByBook
 pub mod Enough
 pub mod Behind
 pub mod BehindBodies
+pub mod BehindBook
 pub mod Image
 pub mod HostRun
 pub mod PlacedBook
