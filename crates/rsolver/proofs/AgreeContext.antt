@@ -40,7 +40,7 @@ module _ {p : Program} (P : PlacedProgram p) where
   adjust-k (suc d) node =
       let K = then-k (adjust-k d (nodeAt p node .parent)) (enter-k node) in
       either-k _ _ (λ s t a. ap (λ n. ltb n (suc d)) (agree-length a)) K
-      (unless-k _ _ (λ s t a. agree-top a node) (λ s t a e. then-k pop-k K .keeps s t a))
+      (λ s t a e. unless-k _ _ (λ s t a. agree-top a node) (λ s t a e. then-k pop-k K .keeps s t a) .keeps s t a)
 
   pop-times-k : (n : ℕ) → Keeps (Agree p) (popTimes (levelled p) p n) (popTimes bodies p n)
   unfolding popTimes

@@ -24,6 +24,16 @@ use Rattle.rsolver.proofs.Placed.{TypeHas, ConstantHas, OperatorHas, Li
 pub record Keeps {S T : Type 0} (R : S → T → Type 0) (f : Step S) (g : Step T) : Type 0 where
   pub keeps : (s : S) (t : T) → R s t → R (f s) (g t)
 
+-- at one pair of states: the tests agree, and where they fail the steps keep it
+pub unless-r : {S T : Type 0} (R : S → T → Type 0) (test : S → Bool) (test′ : T → Bool) (f : Step S) (g : Step T) (s : S) (t : T) → test s ≡ test′ t → R s t
+    → (test′ t ≡ false → R (f s) (g t)) → R (unless test f s) (unless test′ g t)
+unfolding unless doUnless
+unless-r R test test′ f g s t same r h = rw same (at (test′ t) refl)
+  where
+    at : (b : Bool) → test′ t ≡ b → R (doUnless b f s) (doUnless b g t)
+    at true e = r
+    at false e = h e
+
 module _ {S T : Type 0} {R : S → T → Type 0} where
   pub skip-k : Keeps R skip skip
   unfolding skip
@@ -43,21 +53,17 @@ module _ {S T : Type 0} {R : S → T → Type 0} where
   pub unless-k : (test : S → Bool) (test′ : T → Bool) {f : Step S} {g : Step T}
       → ((s : S) (t : T) → R s t → test s ≡ test′ t)
       → ((s : S) (t : T) → R s t → test′ t ≡ false → R (f s) (g t)) → Keeps R (unless test f) (unless test′ g)
-  unfolding unless doUnless
-  unless-k test test′ {f} {g} same h = record { keeps = λ s t r. rw (same s t r) (at s t r (test′ t) refl) }
-    where
-      at : (s : S) (t : T) → R s t → (b : Bool) → test′ t ≡ b → R (doUnless b f s) (doUnless b g t)
-      at s t r true e = r
-      at s t r false e = h s t r e
+  unless-k test test′ {f} {g} same h = record { keeps = λ s t r. unless-r R test test′ f g s t (same s t r) r (h s t r) }
 
   pub either-k : (test : S → Bool) (test′ : T → Bool) {f f′ : Step S} {g g′ : Step T}
-      → ((s : S) (t : T) → R s t → test s ≡ test′ t) → Keeps R f g → Keeps R f′ g′ → Keeps R (either test f f′) (either test′ g g′)
+      → ((s : S) (t : T) → R s t → test s ≡ test′ t) → Keeps R f g
+      → ((s : S) (t : T) → R s t → test′ t ≡ false → R (f′ s) (g′ t)) → Keeps R (either test f f′) (either test′ g g′)
   unfolding either doEither
-  either-k test test′ {f} {f′} {g} {g′} same F F′ = record { keeps = λ s t r. rw (same s t r) (at s t r (test′ t)) }
+  either-k test test′ {f} {f′} {g} {g′} same F h = record { keeps = λ s t r. rw (same s t r) (at s t r (test′ t) refl) }
     where
-      at : (s : S) (t : T) → R s t → (b : Bool) → R (doEither b f f′ s) (doEither b g g′ t)
-      at s t r true = F .keeps s t r
-      at s t r false = F′ .keeps s t r
+      at : (s : S) (t : T) → R s t → (b : Bool) → test′ t ≡ b → R (doEither b f f′ s) (doEither b g g′ t)
+      at s t r true e = F .keeps s t r
+      at s t r false e = h s t r e
 
 -- a test of a list's elements, by two tests that agree on them
 all-same : {A : Type 0} {P : A → Type 0} {xs : List A} (f g : A → Bool) → All P xs → ((x : A) → P x → f x ≡ g x) → all xs f ≡ all xs g

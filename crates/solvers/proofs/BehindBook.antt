@@ -86,9 +86,19 @@ module _ (b : Book) (P : Promise b) (rest : List ℕ) where
   function-same k l =
       let F = field-same functions (P .functions-laid) k in
       let G = P .function k l in
-      rw (F 0 l (omega arith), F 1 l (omega arith), F 2 l (omega arith), F 3 l (omega arith), F 4 l (omega arith), F 5 l (omega arith),
-      name-same _ (G .name), type-same _ (G .typ), entries-same _ _ (G .inputTypes .ends), entries-same _ _ (G .explainedBy .ends),
-      map-same (typeOf (b ++ rest)) (typeOf b) (entries-each b (λ n. n < userTypes + size b types) _ _ (G .inputTypes .below)) type-same)
+      rw (
+        F 0 l (omega arith),
+        F 1 l (omega arith),
+        F 2 l (omega arith),
+        F 3 l (omega arith),
+        F 4 l (omega arith),
+        F 5 l (omega arith),
+        name-same _ (G .name),
+        type-same _ (G .typ),
+        entries-same _ _ (G .inputTypes .ends),
+        entries-same _ _ (G .explainedBy .ends),
+        map-same (typeOf (b ++ rest)) (typeOf b) (entries-each b (λ n. n < userTypes + size b types) _ _ (G .inputTypes .below)) type-same,
+      )
 
   -- ---- terms
   module _ (child : ℕ → RExpr) where
@@ -125,10 +135,18 @@ module _ (b : Book) (P : Promise b) (rest : List ℕ) where
         rw (F 1 l (omega arith), F 2 l (omega arith), F 3 l (omega arith), constant-same _ (h .v))
     by-same t l quantifierExpr h =
         let F = field-same terms (P .terms-laid) t in
-        rw (F 1 l (omega arith), F 2 l (omega arith), F 3 l (omega arith), F 4 l (omega arith), F 5 l (omega arith), F 6 l (omega arith),
-        entries-same _ _ (h .vars .ends), entries-same _ _ (h .patterns .ends),
-        map-same (constantOf (b ++ rest)) (constantOf b) (entries-each b (λ k. k < size b constants) _ _ (h .vars .below)) constant-same,
-        patterns-same (entries-each b (GoodPattern b t) _ _ (h .patterns .each)))
+        rw (
+          F 1 l (omega arith),
+          F 2 l (omega arith),
+          F 3 l (omega arith),
+          F 4 l (omega arith),
+          F 5 l (omega arith),
+          F 6 l (omega arith),
+          entries-same _ _ (h .vars .ends),
+          entries-same _ _ (h .patterns .ends),
+          map-same (constantOf (b ++ rest)) (constantOf b) (entries-each b (λ k. k < size b constants) _ _ (h .vars .below)) constant-same,
+          patterns-same (entries-each b (GoodPattern b t) _ _ (h .patterns .each)),
+        )
 
     over-same : (t : ℕ) → t < size b terms → termOver (b ++ rest) child t ≡ termOver b child t
     unfolding termOver
@@ -188,7 +206,11 @@ module _ (b : Book) (P : Promise b) (rest : List ℕ) where
   pub program-same : program (b ++ rest) ≡ program b
   unfolding program
   program-same =
-      rw (size-same axioms (P .axioms-laid), size-same terms (P .terms-laid), size-same contexts (P .contexts-laid),
-      up-same (axiomOf (b ++ rest)) (axiomOf b) 0 (size b axioms) (λ k l. axiom-same k (omega arith)),
-      up-same (literalAt (b ++ rest)) (literalAt b) 0 (size b terms) (λ k l. literal-same k (omega arith)),
-      up-same (contextOf (b ++ rest)) (contextOf b) 0 (size b contexts) (λ k l. context-same k (omega arith)))
+      rw (
+        size-same axioms (P .axioms-laid),
+        size-same terms (P .terms-laid),
+        size-same contexts (P .contexts-laid),
+        up-same (axiomOf (b ++ rest)) (axiomOf b) 0 (size b axioms) (λ k l. axiom-same k (omega arith)),
+        up-same (literalAt (b ++ rest)) (literalAt b) 0 (size b terms) (λ k l. literal-same k (omega arith)),
+        up-same (contextOf (b ++ rest)) (contextOf b) 0 (size b contexts) (λ k l. context-same k (omega arith)),
+      )

@@ -26,8 +26,9 @@ use Rattle.solvers.proofs.Paths.{path-step}
 use Rattle.solvers.proofs.Shared.{deepest-shared}
 use Rattle.solvers.proofs.PlacedBook.{bounded, term-known}
 use Rattle.solvers.proofs.Enough.{levels-length, enough, bodies-enough}
-use Rattle.solvers.proofs.Behind.{node-state, goal-state}
-use Rattle.solvers.proofs.BehindBodies.{symbols-same, set-same}
+use Rattle.solvers.proofs.BehindBook.{term-same, program-same}
+use Rattle.solvers.proofs.BehindLevels.{move-same, goal-same}
+use Rattle.solvers.proofs.BehindBodies.{body-move, body-goal}
 use Rattle.solvers.proofs.HostRun.{host-run}
 use Rattle.solvers.proofs.Bodies.{bodies-send}
 use Rattle.solvers.proofs.Ladders.{test-not20}
@@ -82,16 +83,18 @@ no-fallback b ok =
     let G = good b P in
     let B = bounded b P in
     record {
-      children = term-over b P;
+      bytes = program-same b P;
+      termBytes = term-same b P;
       kinds = λ t l. P .term t l .known;
+      children = term-over b P;
       paths = path-step (program b) G;
       walks = enough b ok;
       bodyWalks = bodies-enough (program b);
       levels = levels-length (program b) G;
-      nodes = λ x n l. node-state x B G n (omega (arith, contexts-length b));
-      goals = λ x n t l h. goal-state x B G n (term b t) (term-known b P t h) (omega (arith, contexts-length b));
-      bodyNodes = λ x n l. set-same x B G n (omega (arith, contexts-length b));
-      bodyGoals = λ x t h. symbols-same x B (term b t) (term-known b P t h);
+      moves = λ x n l. move-same x B G n (omega (arith, contexts-length b));
+      goals = λ x t h. goal-same x B (term b t) (term-known b P t h);
+      bodyMoves = λ x n l. body-move x B G n (omega (arith, contexts-length b));
+      bodyGoals = λ x t h. body-goal x B (term b t) (term-known b P t h);
     }
 
 pub shared-deepest : (b : Book) → bookTest b ≡ accepted tt → (old new : ℕ) → Deepest (program b) old new (shared (path (program b) old) (path (program b) new))

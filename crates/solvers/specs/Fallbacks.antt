@@ -9,11 +9,11 @@ use lib.Dec.{eqb}
 use lib.ListN.{length, getD, drop}
 use Rattle.basics.specs.Text.{Text}
 use Rattle.book.specs.RExpr.{RExpr, Literal}
-use Rattle.book.specs.Program.{Axiom, Context, Program, path}
+use Rattle.book.specs.Program.{Axiom, Context, Program}
 use Rattle.rsolver.specs.Step.{Step}
 use Rattle.rsolver.specs.Methods.{Methods}
-use Rattle.rsolver.specs.LevelState.{place, literalPlaces, literalPlace, count, hasName, LevelState, levelState, fresh, isTop, push, pop, send, miss}
-use Rattle.rsolver.specs.REngine.{walk, declareNewSymbols, enter}
+use Rattle.rsolver.specs.LevelState.{place, literalPlaces, literalPlace, count, hasName, LevelState, levelState, isTop, push, pop, send, miss}
+use Rattle.rsolver.specs.REngine.{walk, declareNewSymbols}
 
 -- ---- FUEL: from this state every fuel above the number of axioms gives the same walk, and DeclareNewSymbols is that walk
 pub record FuelEnough {S : Type 0} (M : Methods S) (p : Program) (s : S) : Type 0 where
@@ -22,11 +22,12 @@ pub record FuelEnough {S : Type 0} (M : Methods S) (p : Program) (s : S) : Type 
       → walk M p fuel e exclude s ≡ walk M p fuel′ e exclude s
   pub own : (e : RExpr) (fuel : ℕ) → length (p .axioms) < fuel → declareNewSymbols M p e s ≡ walk M p fuel e [] s
 
--- ---- LISTS: anything, for what is behind the end of each
+-- ---- LISTS: anything, for what is read behind the end of each
 pub record Anything : Type 0 where
   pub levels : List ℕ  -- joinAt
   pub level : ℕ  -- isDeclaredAt
   pub named : Bool  -- nameIn
+  pub popped : Step LevelState  -- pop, of an empty stack
   pub axioms : List Axiom  -- axiomAt
   pub contexts : List Context  -- nodeAt
 
@@ -45,6 +46,10 @@ module _ (x : Anything) where
   unfoldable pub declareOr : ℕ → Step LevelState
   declareOr k s = levelState (s .stack) (joinOr (s .levels) k (length (s .stack))) (s .missing) (s .sent)
 
+  unfoldable pub popOr : List ℕ → Step LevelState
+  popOr [] s = x .popped s
+  popOr (memo ∷ memos) s = pop s
+
   -- levelled
   abbrev pub levelledOr : Program → Methods LevelState
   levelledOr p =
@@ -55,24 +60,13 @@ module _ (x : Anything) where
         isNamed = λ name s. nameOr name (p .literals) (drop literalPlaces (s .levels));
         declaredCount = λ s. count (s .levels);
         push = push;
-        pop = pop;
+        pop = λ s. popOr (s .stack) s;
         send = send;
         addDeclarationMarker = λ m. declareOr (place m);
         addName = λ t name. declareOr (literalPlace t);
         miss = miss;
       }
 
-  -- the program, with more behind its axioms and its contexts
+  -- the program, with more behind its axioms and contexts
   unfoldable pub programOr : Program → Program
   programOr p = record { axioms = p .axioms ++ x .axioms; literals = p .literals; contexts = p .contexts ++ x .contexts }
-
-  -- standing and goalState (Rule), of that program
-  unfoldable pub standingOr : Program → List ℕ → LevelState
-  standingOr p [] = fresh
-  standingOr p (n ∷ ns) = enter (levelledOr p) (programOr p) n (standingOr p ns)
-
-  unfoldable pub nodeStateOr : Program → ℕ → LevelState
-  nodeStateOr p n = standingOr p (path (programOr p) n)
-
-  unfoldable pub goalStateOr : Program → ℕ → RExpr → LevelState
-  goalStateOr p n e = declareNewSymbols (levelledOr p) (programOr p) e (push n (nodeStateOr p n))

@@ -5,7 +5,7 @@ use Prim.Native.Nat.{ℕ, suc, _+_, _≤_, _<_}
 use mathlib.Core.Path.{_≡_}
 use mathlib.Core.Logic.{_⊎_}
 use mathlib.Core.Bool.{Bool, true, false}
-use mathlib.Core.List.{List, [], _∷_}
+use mathlib.Core.List.{List, [], _∷_, _++_}
 use lib.ListN.{length}
 use Rattle.basics.specs.Lists.{member}
 use Rattle.basics.specs.Buffer.{scratchLeast}
@@ -14,7 +14,7 @@ use Rattle.book.specs.Book.{Book, terms, contexts, size, field}
 use Rattle.book.specs.Program.{Program, nodeAt, path, depth}
 use Rattle.book.specs.Decode.{kinds, termOver, term, program}
 use Rattle.smt_engines.specs.Command.{script}
-use Rattle.rsolver.specs.LevelState.{levelCount, levelled, push}
+use Rattle.rsolver.specs.LevelState.{LevelState, levelCount, levelled, push}
 use Rattle.rsolver.specs.SolverState.{SolverState, bodies}
 use Rattle.rsolver.specs.REngine.{declareNewSymbols, setContext}
 use Rattle.solvers.specs.declared.Owed.the-variants.{Nothing}
@@ -24,7 +24,7 @@ use Rattle.smt_engines.specs.Reader.{live, read, height}
 use Rattle.solvers.specs.Image.{writeImage}
 use Rattle.solvers.specs.HostRun.{hostRun}
 use Rattle.solvers.specs.Bodies.{doAll}
-use Rattle.solvers.specs.Fallbacks.{FuelEnough, Anything, programOr, nodeStateOr, goalStateOr}
+use Rattle.solvers.specs.Fallbacks.{FuelEnough, Anything, levelledOr, programOr}
 use Rattle.solvers.specs.Rule.{standing, goalState, questionLevels, Present, nodeLevels, mustLive, sessionAt, said, Trace, run, straight}
 
 -- no axiom without a term was looked up on the way to the present node, nor, while a question is open, for its goal
@@ -73,26 +73,31 @@ pub record Seen (b : Book) (cs : List Call) : Type 0 where
   -- the Dafny bodies, on one SolverState with its sets and their copies, kept from call to call, send the same text (demand 2)
   pub bodies : script (doAll b cs .sent) ≡ run b cs .text
 
--- ---- NO FALLBACK IS EVER MET, on a book that passes the test: no fuel ends, and nothing behind the end of a list is read (Fallbacks).
--- That each record of the book stands in its bytes is the promise (book_test/specs/Promise).
+-- ---- NO FALLBACK IS EVER MET, on a book that passes the test: no fuel ends, and nothing is read behind the end of a list (Fallbacks)
 pub record NoFallback (b : Book) : Type 0 where
-  -- a term is what its record says over its children, and its kind is one of the nine
-  pub children : (t : ℕ) → t < size b terms → term b t ≡ termOver b (term b) t
+  -- with anything behind the book's last byte, its program and its terms are the same
+  pub bytes : (rest : List ℕ) → program (b ++ rest) ≡ program b
+  pub termBytes : (rest : List ℕ) (t : ℕ) → t < size b terms → term (b ++ rest) t ≡ term b t
+  -- a term's kind is one of the nine, and it is what its record says over its children
   pub kinds : (t : ℕ) → t < size b terms → field b terms t 0 < length kinds
+  pub children : (t : ℕ) → t < size b terms → term b t ≡ termOver b (term b) t
   -- a node's path is the node and its parent's path
   pub paths : (n : ℕ) → path (program b) (suc n) ≡ suc n ∷ path (program b) (nodeAt (program b) (suc n) .parent)
-  -- more fuel changes no walk: in the session's form of the state at any node, and in the bodies' whatever it holds
+  -- more fuel changes no walk: at any node in the session's form of the state, and in the bodies' whatever it holds
   pub walks : (n : ℕ) (ns : List ℕ) → FuelEnough (levelled (program b)) (program b) (push n (standing (program b) ns))
   pub bodyWalks : (s : SolverState) → FuelEnough bodies (program b) s
-  -- the levels have all their places
+  -- the levels have all their places; from such a state, with anything behind the levels, the axioms and the contexts, a move to any node
+  -- and the declarations of any goal are the same
   pub levels : (ns : List ℕ) → length (standing (program b) ns .levels) ≡ levelCount
-  -- with anything behind the levels, the axioms and the contexts, the state at each node and for each goal there is the same
-  pub nodes : (x : Anything) (n : ℕ) → n ≤ size b contexts → nodeStateOr x (program b) n ≡ standing (program b) (path (program b) n)
+  pub moves :
+      (x : Anything) (n : ℕ) → n ≤ size b contexts → (s : LevelState) → length (s .levels) ≡ levelCount
+      → setContext (levelledOr x (program b)) (programOr x (program b)) n s ≡ setContext (levelled (program b)) (program b) n s
   pub goals :
-      (x : Anything) (n t : ℕ) → n ≤ size b contexts → t < size b terms
-      → goalStateOr x (program b) n (term b t) ≡ goalState (program b) n (term b t)
-  -- and so is what the bodies do from any state: SetContext to a node, and a goal's DeclareNewSymbols
-  pub bodyNodes :
+      (x : Anything) (t : ℕ) → t < size b terms → (n : ℕ) (s : LevelState) → length (s .levels) ≡ levelCount
+      → declareNewSymbols (levelledOr x (program b)) (programOr x (program b)) (term b t) (push n s)
+      ≡ declareNewSymbols (levelled (program b)) (program b) (term b t) (push n s)
+  -- the bodies' too, from any state
+  pub bodyMoves :
       (x : Anything) (n : ℕ) → n ≤ size b contexts → (s : SolverState)
       → setContext bodies (programOr x (program b)) n s ≡ setContext bodies (program b) n s
   pub bodyGoals :

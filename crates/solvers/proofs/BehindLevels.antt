@@ -1,34 +1,32 @@
--- Nothing that is read stands behind the end of the levels, of the axioms or of the contexts: with anything there, the session's state at
--- each node of the book and for each goal there is the same.
+-- With anything behind the levels, the axioms and the contexts of a book that passes the test, what a call does on the session's form of
+-- the state is the same, from every state whose levels have all their places: SetContext to a node, and a goal's DeclareNewSymbols.
 use Prim.Native.Nat.{ℕ, zero, suc, _+_, _-_, _≤_, _<_}
 use native.Mathlib.Nat.{le-of-suc-le-suc, not-suc-le-zero}
 use native.Mathlib.Omega.{arith}
 use mathlib.Core.Path.{_≡_, refl, sym, ap, _∙_}
 use mathlib.Core.Bool.{Bool, not, _&&_, _||_}
 use mathlib.Core.Option.{Option}
-use mathlib.Core.List.{List, [], _∷_, _++_}
+use mathlib.Core.List.{List, [], _∷_, tail}
 use lib.Dec.{eqb}
-use lib.ListN.{length, getD, drop, length-append, length-drop, List·getD-append}
+use lib.ListN.{length, getD, drop, length-drop}
 use Rattle.basics.specs.Text.{Text}
-use Rattle.basics.proofs.All.{All, end, more}
 use Rattle.book.specs.RExpr.{RExpr, Literal}
-use Rattle.book.specs.Program.{Program, Context, axiomAt, nodeAt, pathUp, path}
+use Rattle.book.specs.Program.{Program, Context, nodeAt}
 use Rattle.book.proofs.Every.{EveryR}
 use Rattle.smt_engines.specs.Command.{Command, DeclareLiteral}
 use Rattle.rsolver.specs.Step.{_⨟_}
-use Rattle.rsolver.specs.Methods.{Marker, axiom′}
-use Rattle.rsolver.specs.LevelState.{LevelState, levelCount, literalPlaces, place, literalPlace, joinAt, hasName, nameIn, count, isDeclaredAt, levelled, push, send, miss, declareAt}
-use Rattle.rsolver.specs.REngine.{declareLiteral, assume, declareNewSymbols, walk, enter}
-use Rattle.rsolver.proofs.AgreeLists.{length-join}
+use Rattle.rsolver.specs.Methods.{Marker}
+use Rattle.rsolver.specs.LevelState.{LevelState, levelCount, literalPlaces, place, literalPlace, joinAt, hasName, nameIn, count, isTop, isDeclaredAt, levelled, push, pop, send, miss, declareAt}
+use Rattle.rsolver.specs.REngine.{declareLiteral, assume, declareNewSymbols, walk, enter, setContext}
+use Rattle.rsolver.proofs.AgreeLists.{length-join, length-forget}
 use Rattle.rsolver.proofs.Placed.{LiteralHas, having, place-below}
-use Rattle.rsolver.proofs.Related.{Keeps, then-k, Marks, types-k, Alike, SameAxioms, assume-k, walk-k}
+use Rattle.rsolver.proofs.Related.{Keeps, then-k, Marks, types-k, Alike, assume-k, walk-k}
 use Rattle.rsolver.proofs.Fewer.{fuel-enough}
 use Rattle.rsolver.proofs.Fuel.{counts}
-use Rattle.solvers.specs.Fallbacks.{Anything, joinOr, nameOr, declareOr, levelledOr, programOr, standingOr, nodeStateOr, goalStateOr}
-use Rattle.solvers.specs.Rule.{standing, goalState}
+use Rattle.solvers.specs.Fallbacks.{Anything, joinOr, nameOr, declareOr, popOr, levelledOr, programOr}
 use Rattle.solvers.proofs.Good.{Good}
 use Rattle.solvers.proofs.PlacedBook.{Bounded}
-use Rattle.solvers.proofs.Enough.{levels-length}
+use Rattle.solvers.proofs.BehindProgram.{same-axioms, more-axioms, node-same, Stacked, set-k}
 
 get-inside : {A : Type 0} (l : List A) (k : ℕ) (d e : A) → k < length l → getD l k d ≡ getD l k e
 get-inside [] k d e h = absurd (not-suc-le-zero h)
@@ -49,38 +47,6 @@ module _ (x : Anything) where
   name-inside name [] ls h = refl
   name-inside name (t ∷ ts) [] h = absurd (not-suc-le-zero h)
   name-inside name (t ∷ ts) (l ∷ ls) h = ap {B = Bool} (λ r. not (eqb l 0) && hasName name t || r) (name-inside name ts ls (le-of-suc-le-suc h))
-
-  -- ---- the program
-  module _ {Q : Marker → Type 0} {p : Program} (B : Bounded Q p) where
-    pub same-axioms : SameAxioms Q (programOr x p) p
-    unfolding programOr
-    same-axioms =
-        record {
-          same = λ k h. List·getD-append (p .axioms) (x .axioms) _ k (B .listed k h);
-          explains = B .has .explains;
-          term = B .has .axiomTerm;
-        }
-
-    pub more-axioms : length (p .axioms) < suc (length (programOr x p .axioms))
-    unfolding programOr
-    more-axioms = omega (arith, length-append (p .axioms) (x .axioms))
-
-  pub node-same : (p : Program) (n : ℕ) → 0 < n → n ≤ length (p .contexts) → nodeAt (programOr x p) n ≡ nodeAt p n
-  unfolding nodeAt programOr
-  node-same p n h l = List·getD-append (p .contexts) (x .contexts) _ (n - 1) (omega arith)
-
-  module _ (p : Program) (parents : (n : ℕ) → nodeAt p (suc n) .parent ≤ n) where
-    up-same : (f n : ℕ) → n ≤ length (p .contexts) → pathUp (programOr x p) f n ≡ pathUp p f n
-    unfolding pathUp
-    up-same zero n l = refl
-    up-same (suc f) zero l = refl
-    up-same (suc f) (suc n) l =
-        ap {B = List ℕ} (λ (c : Context). suc n ∷ pathUp (programOr x p) f (c .parent)) (node-same p (suc n) (omega arith) l)
-        ∙ ap {B = List ℕ} (λ r. suc n ∷ r) (up-same f (nodeAt p (suc n) .parent) (omega (arith, parents n)))
-
-    pub path-same : (n : ℕ) → n ≤ length (p .contexts) → path (programOr x p) n ≡ path p n
-    unfolding path
-    path-same n l = up-same n n l
 
   -- ---- the levels: one state, with all its places
   record Here (s t : LevelState) : Type 0 where
@@ -147,38 +113,61 @@ module _ (x : Anything) where
     unfolding declareNewSymbols
     symbols-h e h s d w =
         let fuel = suc (length (programOr x p .axioms)) in
-        let r = walk-k alike (same-axioms B) fuel e [] h .keeps s s (record { same = refl; wide = w }) in
+        let r = walk-k alike (same-axioms x B) fuel e [] h .keeps s s (record { same = refl; wide = w }) in
         let f : walk (levelled p) p fuel e [] s ≡ walk (levelled p) p (suc (length (p .axioms))) e [] s =
-        fuel-enough (counts p) fuel (more-axioms B) e [] s (record { deep = d; wide = omega (arith, B .axioms-few) }) in
+        fuel-enough (counts p) fuel (more-axioms x B) e [] s (record { deep = d; wide = omega (arith, B .axioms-few) }) in
         record { same = r .same ∙ f; wide = ap (λ (u : LevelState). length (u .levels)) (sym f) ∙ r .wide }
 
-    module _ (G : Good p) where
-      at-node : (e : RExpr) → EveryR (having Q p) e → (n : ℕ) (ns : List ℕ)
-          → Here (declareNewSymbols (levelledOr x p) (programOr x p) e (push n (standing p ns))) (declareNewSymbols (levelled p) p e (push n (standing p ns)))
-      at-node e h n ns = symbols-h e h (push n (standing p ns)) (unfold push in omega arith) (unfold push in levels-length p G ns)
+    goal-h : (e : RExpr) → EveryR (having Q p) e → (n : ℕ) (s t : LevelState) → Here s t
+        → Here (declareNewSymbols (levelledOr x p) (programOr x p) e (push n s)) (declareNewSymbols (levelled p) p e (push n t))
+    goal-h e h n s t r =
+        let k = symbols-h e h (push n t) (unfold push in omega arith) (unfold push in r .wide) in
+        record { same = ap (λ (u : LevelState). declareNewSymbols (levelledOr x p) (programOr x p) e (push n u)) (r .same) ∙ k .same; wide = k .wide }
 
-      enter-same : (n : ℕ) → 0 < n → n ≤ length (p .contexts) → (ns : List ℕ)
-          → enter (levelledOr x p) (programOr x p) n (standing p ns) ≡ enter (levelled p) p n (standing p ns)
-      unfolding enter _⨟_
-      enter-same n h l ns =
-          let M = levelledOr x p in
-          let s = push n (standing p ns) in
-          ap (λ (c : Context). assume M (c .expr) (declareNewSymbols M (programOr x p) (c .expr) s)) (node-same p n h l)
-          ∙ assume-k alike (nodeAt p n .expr) .keeps _ _ (at-node (nodeAt p n .expr) (B .has .node n) n ns) .same
+    pub goal-same : (e : RExpr) → EveryR (having Q p) e → (n : ℕ) (s : LevelState) → length (s .levels) ≡ levelCount
+        → declareNewSymbols (levelledOr x p) (programOr x p) e (push n s) ≡ declareNewSymbols (levelled p) p e (push n s)
+    goal-same e h n s w = goal-h e h n s s (record { same = refl; wide = w }) .same
 
-      up-standing : (f n : ℕ) → n ≤ length (p .contexts) → standingOr x p (pathUp p f n) ≡ standing p (pathUp p f n)
-      unfolding pathUp standingOr standing
-      up-standing zero n l = refl
-      up-standing (suc f) zero l = refl
-      up-standing (suc f) (suc n) l =
-          ap (enter (levelledOr x p) (programOr x p) (suc n)) (up-standing f (nodeAt p (suc n) .parent) (omega (arith, G .parents n)))
-          ∙ enter-same (suc n) (omega arith) l (pathUp p f (nodeAt p (suc n) .parent))
+    -- ---- moves
+    enter-h : (n : ℕ) → 0 < n → n ≤ length (p .contexts) → Keeps Here (enter (levelledOr x p) (programOr x p) n) (enter (levelled p) p n)
+    unfolding enter _⨟_
+    enter-h n h l =
+        record {
+          keeps = λ s t r.
+              let k = assume-k alike (nodeAt p n .expr) .keeps _ _ (goal-h (nodeAt p n .expr) (B .has .node n) n s t r) in
+              record {
+                same =
+                    ap (λ (c : Context). assume (levelledOr x p) (c .expr) (declareNewSymbols (levelledOr x p) (programOr x p) (c .expr) (push n s))) (node-same x p n h l)
+                    ∙ k .same;
+                wide = k .wide;
+              };
+        }
 
-      pub node-state : (n : ℕ) → n ≤ length (p .contexts) → nodeStateOr x p n ≡ standing p (path p n)
-      unfolding nodeStateOr
-      node-state n l = ap (standingOr x p) (path-same p (G .parents) n l) ∙ unfold path in up-standing n n l
+    pop-inside : (ms : List ℕ) (s : LevelState) → 0 < length ms → popOr x ms s ≡ pop s
+    unfolding popOr
+    pop-inside [] s h = absurd (not-suc-le-zero h)
+    pop-inside (m ∷ ms) s h = refl
 
-      pub goal-state : (n : ℕ) (e : RExpr) → EveryR (having Q p) e → n ≤ length (p .contexts) → goalStateOr x p n e ≡ goalState p n e
-      unfolding goalStateOr goalState
-      goal-state n e h l =
-          ap (λ (s : LevelState). declareNewSymbols (levelledOr x p) (programOr x p) e (push n s)) (node-state n l) ∙ at-node e h n (path p n) .same
+    pop-h : (s t : LevelState) → Here s t → 0 < length (t .stack) → Here (levelledOr x p .pop s) (pop t)
+    pop-h s t r h =
+        record {
+          same = ap (levelledOr x p .pop) (r .same) ∙ pop-inside (t .stack) t h;
+          wide = unfold pop in length-forget (length (t .stack)) (t .levels) ∙ r .wide;
+        }
+
+    tail-length : (ms : List ℕ) → length (tail ms) ≡ length ms - 1
+    tail-length [] = omega arith
+    tail-length (m ∷ ms) = omega arith
+
+    stacked : Stacked (levelledOr x p) (levelled p) Here
+    stacked =
+        record {
+          high = λ s t r. ap (λ (u : LevelState). length (u .stack)) (r .same);
+          top = λ memo s t r. ap (λ (u : LevelState). isTop memo (u .stack)) (r .same);
+          pop = pop-h;
+          lower = λ t. unfold pop in tail-length (t .stack);
+        }
+
+    pub move-same : Good p → (n : ℕ) → n ≤ length (p .contexts) → (s : LevelState) → length (s .levels) ≡ levelCount
+        → setContext (levelledOr x p) (programOr x p) n s ≡ setContext (levelled p) p n s
+    move-same G n l s w = set-k x p G stacked enter-h n l .keeps s s (record { same = refl; wide = w }) .same
