@@ -1,17 +1,15 @@
--- The walk's fuel is enough wherever the stack rule speaks of a walk, and in every state of the bodies.
+-- The levels have all their places, so a walk's fuel is enough; in the bodies' state it always is.
 use Prim.Native.Nat.{ℕ, suc, _+_, _≤_, _<_}
 use native.Mathlib.Omega.{arith}
 use mathlib.Core.Path.{_≡_, sym, _∙_}
 use mathlib.Core.List.{List, [], _∷_}
 use lib.ListN.{length, length-replicate}
-use Rattle.basics.specs.Outcome.{accepted}
 use Rattle.book.specs.Book.{Book, axioms, size}
 use Rattle.book.specs.Program.{Program}
 use Rattle.book.specs.Decode.{program}
 use Rattle.book.proofs.Terms.{axioms-length}
-use Rattle.book_test.specs.BookTest.{bookTest}
-use Rattle.book_test.proofs.Promise.{promise}
-use Rattle.rsolver.specs.LevelState.{levelCount, noLevels, levelled, fresh, push}
+use Rattle.book_test.specs.Promise.{Promise}
+use Rattle.rsolver.specs.LevelState.{LevelState, levelCount, noLevels, levelled, fresh, push}
 use Rattle.rsolver.specs.Methods.{Methods}
 use Rattle.rsolver.specs.SolverState.{SolverState, bodies}
 use Rattle.rsolver.proofs.Levels.{grown-length}
@@ -19,7 +17,7 @@ use Rattle.rsolver.proofs.Fewer.{Counts, fuel-enough, symbols-enough}
 use Rattle.rsolver.proofs.Fuel.{counts, body-counts}
 use Rattle.solvers.specs.Rule.{standing}
 use Rattle.solvers.specs.Fallbacks.{FuelEnough}
-use Rattle.solvers.proofs.Good.{Good, good}
+use Rattle.solvers.proofs.Good.{Good}
 use Rattle.solvers.proofs.Standing.{grown-at}
 
 pub levels-length : (p : Program) (G : Good p) (ns : List ℕ) → length (standing p ns .levels) ≡ levelCount
@@ -35,13 +33,10 @@ fuel C s i =
       own = λ e f h. symbols-enough C f h e s i;
     }
 
--- at every node of a book that passes the test, and for a goal there
-pub enough : (b : Book) → bookTest b ≡ accepted tt → (n : ℕ) (ns : List ℕ) → FuelEnough (levelled (program b)) (program b) (push n (standing (program b) ns))
+-- inside a level, where a book that passes the test has a place for each of its axioms
+pub enough : (b : Book) → Promise b → (n : ℕ) (s : LevelState) → length (s .levels) ≡ levelCount → FuelEnough (levelled (program b)) (program b) (push n s)
 unfolding push
-enough b ok n ns =
-    let P = promise b ok in
-    fuel (counts (program b)) (push n (standing (program b) ns))
-    (record { deep = omega arith; wide = omega (arith, axioms-length b, P .axioms-laid .few, levels-length (program b) (good b P) ns) })
+enough b P n s w = fuel (counts (program b)) (push n s) (record { deep = omega arith; wide = omega (arith, axioms-length b, P .axioms-laid .few) })
 
 -- in every state of the bodies
 pub bodies-enough : (p : Program) (s : SolverState) → FuelEnough bodies p s

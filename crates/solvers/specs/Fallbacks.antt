@@ -32,25 +32,29 @@ pub record Anything : Type 0 where
   pub contexts : List Context  -- nodeAt
 
 module _ (x : Anything) where
+  -- joinAt
   unfoldable pub joinOr : List ℕ → ℕ → ℕ → List ℕ
   joinOr [] k n = x .levels
   joinOr (zero ∷ ls) zero n = n ∷ ls
   joinOr (suc l ∷ ls) zero n = suc l ∷ ls
   joinOr (l ∷ ls) (suc k) n = l ∷ joinOr ls k n
 
+  -- nameIn
   unfoldable pub nameOr : Text → List (Option Literal) → List ℕ → Bool
   nameOr name [] ls = false
   nameOr name (t ∷ ts) [] = x .named
   nameOr name (t ∷ ts) (l ∷ ls) = not (eqb l 0) && hasName name t || nameOr name ts ls
 
+  -- declareAt
   unfoldable pub declareOr : ℕ → Step LevelState
   declareOr k s = levelState (s .stack) (joinOr (s .levels) k (length (s .stack))) (s .missing) (s .sent)
 
+  -- pop, by the stack
   unfoldable pub popOr : List ℕ → Step LevelState
   popOr [] s = x .popped s
   popOr (memo ∷ memos) s = pop s
 
-  -- levelled
+  -- levelled, with these
   abbrev pub levelledOr : Program → Methods LevelState
   levelledOr p =
       record {

@@ -83,12 +83,12 @@ pub record NoFallback (b : Book) : Type 0 where
   pub children : (t : ℕ) → t < size b terms → term b t ≡ termOver b (term b) t
   -- a node's path is the node and its parent's path
   pub paths : (n : ℕ) → path (program b) (suc n) ≡ suc n ∷ path (program b) (nodeAt (program b) (suc n) .parent)
-  -- more fuel changes no walk: at any node in the session's form of the state, and in the bodies' whatever it holds
-  pub walks : (n : ℕ) (ns : List ℕ) → FuelEnough (levelled (program b)) (program b) (push n (standing (program b) ns))
-  pub bodyWalks : (s : SolverState) → FuelEnough bodies (program b) s
-  -- the levels have all their places; from such a state, with anything behind the levels, the axioms and the contexts, a move to any node
-  -- and the declarations of any goal are the same
+  -- the levels have all their places
   pub levels : (ns : List ℕ) → length (standing (program b) ns .levels) ≡ levelCount
+  -- more fuel changes no walk: neither in such a state, inside a level, nor in any state of the bodies
+  pub walks : (n : ℕ) (s : LevelState) → length (s .levels) ≡ levelCount → FuelEnough (levelled (program b)) (program b) (push n s)
+  pub bodyWalks : (s : SolverState) → FuelEnough bodies (program b) s
+  -- with anything behind the levels, the axioms and the contexts, a move to any node and the declarations of any goal are the same
   pub moves :
       (x : Anything) (n : ℕ) → n ≤ size b contexts → (s : LevelState) → length (s .levels) ≡ levelCount
       → setContext (levelledOr x (program b)) (programOr x (program b)) n s ≡ setContext (levelled (program b)) (program b) n s
@@ -96,7 +96,7 @@ pub record NoFallback (b : Book) : Type 0 where
       (x : Anything) (t : ℕ) → t < size b terms → (n : ℕ) (s : LevelState) → length (s .levels) ≡ levelCount
       → declareNewSymbols (levelledOr x (program b)) (programOr x (program b)) (term b t) (push n s)
       ≡ declareNewSymbols (levelled (program b)) (program b) (term b t) (push n s)
-  -- the bodies' too, from any state
+  -- and so are the bodies', from any state
   pub bodyMoves :
       (x : Anything) (n : ℕ) → n ≤ size b contexts → (s : SolverState)
       → setContext bodies (programOr x (program b)) n s ≡ setContext bodies (program b) n s
