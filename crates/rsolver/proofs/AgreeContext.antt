@@ -1,7 +1,7 @@
 -- SetContext and Prove take states that agree to states that agree: what the session stores sends what the bodies send.
 use Prim.Native.Nat.{ℕ, zero, suc, _-_}
 use native.Mathlib.Omega.{arith}
-use mathlib.Core.Path.{_≡_, ap}
+use mathlib.Core.Path.{ap}
 use lib.Dec.{ltb}
 use lib.ListN.{length}
 use Rattle.book.specs.RExpr.{RExpr}

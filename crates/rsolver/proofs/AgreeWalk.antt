@@ -1,5 +1,5 @@
 -- DeclareNewSymbols takes states that agree, inside a level, to states that agree; so do the assumptions.
-use Prim.Native.Nat.{ℕ, suc, _<_}
+use Prim.Native.Nat.{ℕ, _<_}
 use mathlib.Core.Path.{_≡_, refl}
 use mathlib.Core.List.{[]}
 use mathlib.Core.Bool.{Bool, true, false}

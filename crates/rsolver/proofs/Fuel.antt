@@ -6,7 +6,6 @@ use native.Mathlib.Decide.{decLt}
 use mathlib.Core.Path.{_≡_, refl, sym, ap, _∙_}
 use mathlib.Core.List.{List, [], _∷_}
 use mathlib.Core.Bool.{Bool, true, false, _||_}
-use lib.Dec.{eqb}
 use lib.ListN.{length, getD}
 use borrow.Author.Tests.{not-false, eqb-true}
 use Rattle.book.specs.Program.{Program}
@@ -14,7 +13,7 @@ use Rattle.smt_engines.specs.Command.{Command}
 use Rattle.rsolver.specs.Step.{Step}
 use Rattle.rsolver.specs.Methods.{Marker, axiom′}
 use Rattle.rsolver.specs.LevelState.{LevelState, axiomPlaces, place, literalPlace, joinAt, isDeclaredAt, send, declareAt, miss, levelled}
-use Rattle.rsolver.specs.SolverState.{SolverState, sameMarker, isIn, with′, told, marked, named, missed, bodies}
+use Rattle.rsolver.specs.SolverState.{sameMarker, isIn, with′, told, marked, named, missed, bodies}
 use Rattle.rsolver.proofs.AgreeLists.{length-join}
 use Rattle.rsolver.proofs.Sets.{marker-refl, marker-eq, in-with}
 use Rattle.rsolver.proofs.Fewer.{Fewer, Counts}

@@ -1,6 +1,6 @@
 -- With anything behind the levels, the axioms and the contexts of a book that passes the test, what a call does on the session's form of
 -- the state is the same, from every state whose levels have all their places: SetContext to a node, and a goal's DeclareNewSymbols.
-use Prim.Native.Nat.{ℕ, zero, suc, _+_, _-_, _≤_, _<_}
+use Prim.Native.Nat.{ℕ, zero, suc, _-_, _≤_, _<_}
 use native.Mathlib.Nat.{le-of-suc-le-suc, not-suc-le-zero}
 use native.Mathlib.Omega.{arith}
 use mathlib.Core.Path.{_≡_, refl, sym, ap, _∙_}

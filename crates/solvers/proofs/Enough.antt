@@ -1,10 +1,10 @@
 -- The levels have all their places, so a walk's fuel is enough; in the bodies' state it always is.
-use Prim.Native.Nat.{ℕ, suc, _+_, _≤_, _<_}
+use Prim.Native.Nat.{ℕ}
 use native.Mathlib.Omega.{arith}
 use mathlib.Core.Path.{_≡_, sym, _∙_}
 use mathlib.Core.List.{List, [], _∷_}
 use lib.ListN.{length, length-replicate}
-use Rattle.book.specs.Book.{Book, axioms, size}
+use Rattle.book.specs.Book.{Book}
 use Rattle.book.specs.Program.{Program}
 use Rattle.book.specs.Decode.{program}
 use Rattle.book.proofs.Terms.{axioms-length}

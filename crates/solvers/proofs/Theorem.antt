@@ -1,5 +1,5 @@
 -- THE STACK RULE and what stands beside it in specs/StackRule.antt, proved for every book and every list of calls.
-use Prim.Native.Nat.{ℕ, _≤_}
+use Prim.Native.Nat.{ℕ}
 use native.Mathlib.Omega.{arith}
 use mathlib.Core.Path.{_≡_, refl, sym, ap, _∙_, subst}
 use mathlib.Core.List.{List}
