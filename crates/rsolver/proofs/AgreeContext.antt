@@ -1,30 +1,21 @@
 -- SetContext and Prove take states that agree to states that agree: what the session stores sends what the bodies send.
 use Prim.Native.Nat.{ℕ, zero, suc, _-_}
 use native.Mathlib.Omega.{arith}
-use mathlib.Core.Path.{_≡_, ap}
-use mathlib.Core.Bool.{Bool, true, false}
+use mathlib.Core.Path.{ap}
 use lib.Dec.{ltb}
 use lib.ListN.{length}
 use Rattle.book.specs.RExpr.{RExpr}
 use Rattle.book.specs.Program.{Program, nodeAt, depth}
 use Rattle.book.proofs.Every.{EveryR}
 use Rattle.smt_engines.specs.Command.{Push, Pop, CheckSat, GetModel}
-use Rattle.rsolver.specs.Step.{Step, _⨟_, doEither, either}
+use Rattle.rsolver.specs.Step.{_⨟_}
 use Rattle.rsolver.specs.LevelState.{LevelState, levelled, push, pop}
 use Rattle.rsolver.specs.SolverState.{SolverState, bodies, pushed, popped}
 use Rattle.rsolver.specs.REngine.{check, askModel, endCheck, enter, adjustContext, popTimes, setContext, askGoal, closeGoal}
 use Rattle.rsolver.proofs.Placed.{placed, PlacedProgram}
 use Rattle.rsolver.proofs.Agree.{Agree, agree-length, agree-top, agree-push, agree-pop, agree-send}
-use Rattle.rsolver.proofs.AgreeWalk.{Keeps, skip-k, then-k, unless-k, Inside, send-k, assume-k, assume-not-k, symbols-k}
-
-either-k : {R : LevelState → SolverState → Type 0} (test : LevelState → Bool) (test′ : SolverState → Bool) {f f′ : Step LevelState} {g g′ : Step SolverState}
-    → ((s : LevelState) (t : SolverState) → R s t → test s ≡ test′ t) → Keeps R f g → Keeps R f′ g′ → Keeps R (either test f f′) (either test′ g g′)
-unfolding either doEither
-either-k {R} test test′ {f} {f′} {g} {g′} same F F′ = record { keeps = λ s t r. rw (same s t r) (at s t r (test′ t)) }
-  where
-    at : (s : LevelState) (t : SolverState) → R s t → (b : Bool) → R (doEither b f f′ s) (doEither b g g′ t)
-    at s t r true = F .keeps s t r
-    at s t r false = F′ .keeps s t r
+use Rattle.rsolver.proofs.Related.{Keeps, skip-k, then-k, unless-k, either-k}
+use Rattle.rsolver.proofs.AgreeWalk.{Inside, send-k, assume-k, assume-not-k, symbols-k}
 
 module _ {p : Program} (P : PlacedProgram p) where
   -- a push leads inside a level
@@ -49,7 +40,7 @@ module _ {p : Program} (P : PlacedProgram p) where
   adjust-k (suc d) node =
       let K = then-k (adjust-k d (nodeAt p node .parent)) (enter-k node) in
       either-k _ _ (λ s t a. ap (λ n. ltb n (suc d)) (agree-length a)) K
-      (unless-k _ _ (λ s t a. agree-top a node) (λ s t a e. then-k pop-k K .keeps s t a))
+      (λ s t a e. unless-k _ _ (λ s t a. agree-top a node) (λ s t a e. then-k pop-k K .keeps s t a) .keeps s t a)
 
   pop-times-k : (n : ℕ) → Keeps (Agree p) (popTimes (levelled p) p n) (popTimes bodies p n)
   unfolding popTimes

@@ -1,8 +1,10 @@
 pub mod Levels
 pub mod Declares
+pub mod Fewer
 pub mod Fuel
 pub mod Worked
 pub mod Placed
+pub mod Related
 pub mod Sets
 pub mod AgreeLists
 pub mod Agree

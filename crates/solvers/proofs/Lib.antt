@@ -15,6 +15,10 @@ pub mod Straight
 pub mod Shared
 pub mod ByBook
 pub mod Enough
+pub mod BehindBook
+pub mod BehindProgram
+pub mod BehindLevels
+pub mod BehindBodies
 pub mod Image
 pub mod HostRun
 pub mod PlacedBook

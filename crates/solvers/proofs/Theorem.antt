@@ -1,5 +1,6 @@
 -- THE STACK RULE and what stands beside it in specs/StackRule.antt, proved for every book and every list of calls.
 use Prim.Native.Nat.{ℕ}
+use native.Mathlib.Omega.{arith}
 use mathlib.Core.Path.{_≡_, refl, sym, ap, _∙_, subst}
 use mathlib.Core.List.{List}
 use mathlib.Core.Bool.{Bool, false}
@@ -7,6 +8,7 @@ use Rattle.basics.specs.Outcome.{Outcome, accepted, refused}
 use Rattle.book.specs.Book.{Book}
 use Rattle.book.specs.Program.{path, shared}
 use Rattle.book.specs.Decode.{term, program}
+use Rattle.book.proofs.Terms.{contexts-length}
 use Rattle.book_test.specs.BookTest.{bookTest}
 use Rattle.book_test.proofs.Promise.{promise}
 use Rattle.book_test.proofs.TermLaw.{term-over}
@@ -22,7 +24,11 @@ use Rattle.solvers.specs.StackRule.{Complete, StackRule, Seen, NoFallbac
 use Rattle.solvers.proofs.Good.{good}
 use Rattle.solvers.proofs.Paths.{path-step}
 use Rattle.solvers.proofs.Shared.{deepest-shared}
-use Rattle.solvers.proofs.Enough.{levels-length, enough}
+use Rattle.solvers.proofs.PlacedBook.{bounded, term-known}
+use Rattle.solvers.proofs.Enough.{levels-length, enough, bodies-enough}
+use Rattle.solvers.proofs.BehindBook.{term-same, program-same}
+use Rattle.solvers.proofs.BehindLevels.{move-same, goal-same}
+use Rattle.solvers.proofs.BehindBodies.{body-move, body-goal}
 use Rattle.solvers.proofs.HostRun.{host-run}
 use Rattle.solvers.proofs.Bodies.{bodies-send}
 use Rattle.solvers.proofs.BodiesState.{bodies-state, valid-bodies}
@@ -79,11 +85,22 @@ seen b cs =
 
 pub no-fallback : (b : Book) → bookTest b ≡ accepted tt → NoFallback b
 no-fallback b ok =
+    let P = promise b ok in
+    let G = good b P in
+    let B = bounded b P in
     record {
-      terms = term-over b (promise b ok);
-      paths = λ n. path-step (program b) (good b (promise b ok)) n;
-      walks = enough b ok;
-      levels = levels-length (program b) (good b (promise b ok));
+      bytes = program-same b P;
+      termBytes = term-same b P;
+      kinds = λ t l. P .term t l .known;
+      children = term-over b P;
+      paths = path-step (program b) G;
+      levels = levels-length (program b) G;
+      walks = enough b P;
+      bodyWalks = bodies-enough (program b);
+      moves = λ x n l. move-same x B G n (omega (arith, contexts-length b));
+      goals = λ x t h. goal-same x B (term b t) (term-known b P t h);
+      bodyMoves = λ x n l. body-move x B G n (omega (arith, contexts-length b));
+      bodyGoals = λ x t h. body-goal x B (term b t) (term-known b P t h);
     }
 
 pub shared-deepest : (b : Book) → bookTest b ≡ accepted tt → (old new : ℕ) → Deepest (program b) old new (shared (path (program b) old) (path (program b) new))

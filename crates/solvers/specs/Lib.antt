@@ -5,6 +5,7 @@ pub mod Image
 pub mod HostRun
 pub mod Rule
 pub mod Bodies
+pub mod Fallbacks
 pub mod StackRule
 pub mod ByBook
 pub mod Returned

@@ -5,20 +5,19 @@ use Prim.Native.Nat.{ℕ, suc, _+_, _≤_, _<_}
 use mathlib.Core.Path.{_≡_}
 use mathlib.Core.Logic.{_⊎_}
 use mathlib.Core.Bool.{Bool, true, false}
-use mathlib.Core.List.{List, [], _∷_}
+use mathlib.Core.List.{List, [], _∷_, _++_}
 use lib.ListN.{length}
 use Rattle.basics.specs.Lists.{member}
 use Rattle.basics.specs.Buffer.{scratchLeast}
 use Rattle.basics.specs.Outcome.{refused, accepted}
-use Rattle.book.specs.RExpr.{RExpr}
-use Rattle.book.specs.Book.{Book, terms, size}
+use Rattle.book.specs.Book.{Book, terms, contexts, size, field}
 use Rattle.book.specs.Program.{Program, nodeAt, path, depth}
-use Rattle.book.specs.Decode.{termOver, term, program}
+use Rattle.book.specs.Decode.{kinds, termOver, term, program}
 use Rattle.smt_engines.specs.Command.{script}
 use Rattle.rsolver.specs.Step.{Step}
-use Rattle.rsolver.specs.SolverState.{SolverState, Valid}
-use Rattle.rsolver.specs.LevelState.{levelCount, levelled, push}
-use Rattle.rsolver.specs.REngine.{walk, declareNewSymbols}
+use Rattle.rsolver.specs.LevelState.{LevelState, levelCount, levelled, push}
+use Rattle.rsolver.specs.SolverState.{SolverState, bodies, Valid}
+use Rattle.rsolver.specs.REngine.{declareNewSymbols, setContext}
 use Rattle.solvers.specs.declared.Owed.the-variants.{Nothing}
 use Rattle.solvers.specs.Session.{Written, textOf}
 use Rattle.solvers.specs.Calls.{Host, Call, moveTo, call}
@@ -26,6 +25,7 @@ use Rattle.smt_engines.specs.Reader.{live, read, height}
 use Rattle.solvers.specs.Image.{writeImage}
 use Rattle.solvers.specs.HostRun.{hostRun}
 use Rattle.solvers.specs.Bodies.{doAll, doAllOr}
+use Rattle.solvers.specs.Fallbacks.{FuelEnough, Anything, levelledOr, programOr}
 use Rattle.solvers.specs.Rule.{standing, goalState, questionLevels, openQuestions, Present, nodeLevels, mustLive, sessionAt, said, Trace, run, straight}
 
 -- no axiom without a term was looked up on the way to the present node, nor, while a question is open, for its goal
@@ -82,19 +82,36 @@ pub record Seen (b : Book) (cs : List Call) : Type 0 where
   -- `expect axiom in axiomMap` has never failed
   pub expects : doAll b cs .missing ≡ false
 
--- ---- NO DEFINITION IS EVER AT ITS END, on a book that passes the test
+-- ---- NO FALLBACK IS EVER MET, on a book that passes the test: no fuel ends, and nothing is read behind the end of a list (Fallbacks)
 pub record NoFallback (b : Book) : Type 0 where
-  -- a term is what its record says over its children
-  pub terms : (t : ℕ) → t < size b terms → term b t ≡ termOver b (term b) t
+  -- with anything behind the book's last byte, its program and its terms are the same
+  pub bytes : (rest : List ℕ) → program (b ++ rest) ≡ program b
+  pub termBytes : (rest : List ℕ) (t : ℕ) → t < size b terms → term (b ++ rest) t ≡ term b t
+  -- a term's kind is one of the nine, and it is what its record says over its children
+  pub kinds : (t : ℕ) → t < size b terms → field b terms t 0 < length kinds
+  pub children : (t : ℕ) → t < size b terms → term b t ≡ termOver b (term b) t
   -- a node's path is the node and its parent's path
   pub paths : (n : ℕ) → path (program b) (suc n) ≡ suc n ∷ path (program b) (nodeAt (program b) (suc n) .parent)
-  -- more fuel changes no walk, at any node and for any goal there
-  pub walks :
-      (n : ℕ) (ns : List ℕ) (e : RExpr) (fuel : ℕ) → length (program b .axioms) < fuel
-      → walk (levelled (program b)) (program b) fuel e [] (push n (standing (program b) ns))
-      ≡ declareNewSymbols (levelled (program b)) (program b) e (push n (standing (program b) ns))
   -- the levels have all their places
   pub levels : (ns : List ℕ) → length (standing (program b) ns .levels) ≡ levelCount
+  -- more fuel changes no walk: neither in such a state, inside a level, nor in any state of the bodies
+  pub walks : (n : ℕ) (s : LevelState) → length (s .levels) ≡ levelCount → FuelEnough (levelled (program b)) (program b) (push n s)
+  pub bodyWalks : (s : SolverState) → FuelEnough bodies (program b) s
+  -- with anything behind the levels, the axioms and the contexts, a move to any node and the declarations of any goal are the same
+  pub moves :
+      (x : Anything) (n : ℕ) → n ≤ size b contexts → (s : LevelState) → length (s .levels) ≡ levelCount
+      → setContext (levelledOr x (program b)) (programOr x (program b)) n s ≡ setContext (levelled (program b)) (program b) n s
+  pub goals :
+      (x : Anything) (t : ℕ) → t < size b terms → (n : ℕ) (s : LevelState) → length (s .levels) ≡ levelCount
+      → declareNewSymbols (levelledOr x (program b)) (programOr x (program b)) (term b t) (push n s)
+      ≡ declareNewSymbols (levelled (program b)) (program b) (term b t) (push n s)
+  -- and so are the bodies', from any state
+  pub bodyMoves :
+      (x : Anything) (n : ℕ) → n ≤ size b contexts → (s : SolverState)
+      → setContext bodies (programOr x (program b)) n s ≡ setContext bodies (program b) n s
+  pub bodyGoals :
+      (x : Anything) (t : ℕ) → t < size b terms → (s : SolverState)
+      → declareNewSymbols bodies (programOr x (program b)) (term b t) s ≡ declareNewSymbols bodies (program b) (term b t) s
 
 -- ---- THE DEEPEST NODE THAT BOTH PATHS SHARE
 -- s is the depth of the deepest node that both paths share (the root, of depth 0, is on all); proved of `shared`

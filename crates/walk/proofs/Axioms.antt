@@ -19,7 +19,8 @@ use Rattle.smt_engines.specs.Command.{Command, Assume, script}
 use Rattle.rsolver.specs.Step.{Step, skip, _⨟_, for, unless}
 use Rattle.rsolver.specs.LevelState.{LevelState, levelState, place, isDeclaredAt, joinAt, count, send, declareAt, miss, functionPlaces, axiomPlaces, sentBy}
 use Rattle.rsolver.specs.REngine.{assume, walk, sendAxiom, includeAxiom, declareOperator, declareNewTypes, declareFunction, declareNewSymbols}
-use Rattle.rsolver.proofs.Fuel.{undeclared, mark-new, fuel-free, undeclared-most}
+use Rattle.rsolver.proofs.Fewer.{fuel-free}
+use Rattle.rsolver.proofs.Fuel.{undeclared, mark-new, counts, undeclared-most}
 use Rattle.levels.specs.declared.Progress.{Progress}
 use Rattle.levels.specs.Did.{Did, Ready}
 use Rattle.levels.specs.Types.{engine, functionStep}
@@ -120,7 +121,7 @@ module _ (b : Book) where
     enough l t st m sent e =
         let u = undeclared (program b) (levelState st ls1 m sent) in
         let most : undeclared (program b) (levelState st ls m sent) ≤ length (program b .axioms) = unfold undeclared in undeclared-most axiomPlaces (length (program b .axioms)) ls in
-        fuel-free (program b) u (length (program b .axioms)) (suc (length (program b .axioms))) (omega (arith, falls st m sent e, most)) (omega (arith, falls st m sent e, most)) (term b t) [] (levelState st ls1 m sent)
+        fuel-free (counts (program b)) u (length (program b .axioms)) (suc (length (program b .axioms))) (omega (arith, falls st m sent e, most)) (omega (arith, falls st m sent e, most)) (term b t) [] (levelState st ls1 m sent)
         (inside (ready-marked l) st m sent e) (le-refl u)
         ∙ unfold walk in refl
 

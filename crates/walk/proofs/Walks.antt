@@ -15,7 +15,8 @@ use Rattle.book_test.specs.Promise.{Promise}
 use Rattle.smt_engines.specs.Command.{Command}
 use Rattle.rsolver.specs.Step.{Step, skip}
 use Rattle.rsolver.specs.LevelState.{LevelState, levelState, axiomPlaces}
-use Rattle.rsolver.proofs.Fuel.{undeclaredIn, undeclared, Inside, Falls, symbols-fall, all-fall, patterns-fall, operator-falls, axioms-fall, type-falls, types-fall, then-falls, variables-fall, function-falls}
+use Rattle.rsolver.proofs.Fewer.{then-f, symbols-fall, all-fall, patterns-fall, operator-falls, axioms-fall, type-falls, types-fall, variables-fall, function-falls}
+use Rattle.rsolver.proofs.Fuel.{undeclaredIn, undeclared, Inside, Falls, counts}
 use Rattle.levels.specs.declared.Progress.{Progress}
 use Rattle.levels.specs.Did.{Did, Ready}
 use Rattle.levels.specs.Types.{typeStep, constantTypesStep, functionStep}
@@ -54,36 +55,36 @@ module _ {b : Book} {n : ℕ} {ls ls' : List ℕ} {so r : Progress} {o o' : List
 
   pub term-fewer : (t : ℕ) {set : List ℕ} → length set ≡ setSize → Walked (symbolsStep b t) set n ls ls' so o o' r → left b ls' ≤ left b ls
   unfolding symbolsStep
-  term-fewer t l w = some l w (λ x. symbols-fall (program b) (length (program b .axioms)) (term b t) x)
+  term-fewer t l w = some l w (λ x. symbols-fall (counts (program b)) (length (program b .axioms)) (term b t) x)
 
   pub terms-fewer : (start count : ℕ) {set : List ℕ} → length set ≡ setSize → Walked (termsStep b start count) set n ls ls' so o o' r → left b ls' ≤ left b ls
   unfolding termsStep
-  terms-fewer start count l w = some l w (λ x. all-fall (program b) (length (program b .axioms)) (argsOf b (term b) start count) x)
+  terms-fewer start count l w = some l w (λ x. all-fall (counts (program b)) (length (program b .axioms)) (argsOf b (term b) start count) x)
 
   pub patterns-fewer : (start count : ℕ) {set : List ℕ} → length set ≡ setSize → Walked (patternsStep b start count) set n ls ls' so o o' r → left b ls' ≤ left b ls
   unfolding patternsStep
   patterns-fewer start count l w =
-      some l w (λ x. patterns-fall (program b) (length (program b .axioms)) (toRPatterns (patternOf b (term b)) (entries b start count)) x)
+      some l w (λ x. patterns-fall (counts (program b)) (length (program b .axioms)) (toRPatterns (patternOf b (term b)) (entries b start count)) x)
 
   pub operator-fewer : (k : ℕ) → Included (operatorStep b k) n ls ls' so o o' r → left b ls' ≤ left b ls
   unfolding operatorStep
-  operator-fewer k w = did-fewer y (operator-falls (program b) (length (program b .axioms)) (UserDefinedFunction (functionOf b k)) []) (w .did [])
+  operator-fewer k w = did-fewer y (operator-falls (counts (program b)) (length (program b .axioms)) (UserDefinedFunction (functionOf b k)) []) (w .did [])
 
   pub axioms-fewer : (start count : ℕ) → Included (axiomsStep b start count) n ls ls' so o o' r → left b ls' ≤ left b ls
   unfolding axiomsStep
-  axioms-fewer start count w = did-fewer y (axioms-fall (program b) (length (program b .axioms)) (entries b start count) []) (w .did [])
+  axioms-fewer start count w = did-fewer y (axioms-fall (counts (program b)) (length (program b .axioms)) (entries b start count) []) (w .did [])
 
   pub type-fewer : (typ : ℕ) → Did (typeStep b typ) n ls ls' so o o' r → left b ls' ≤ left b ls
   unfolding typeStep
-  type-fewer typ d = did-fewer y (type-falls (program b) _) d
+  type-fewer typ d = did-fewer y (type-falls (counts (program b)) _) d
 
   pub variables-fewer : (start count : ℕ) → Did (constantTypesStep b start count) n ls ls' so o o' r → left b ls' ≤ left b ls
   unfolding constantTypesStep
-  variables-fewer start count d = did-fewer y (variables-fall (program b) _) d
+  variables-fewer start count d = did-fewer y (variables-fall (counts (program b)) _) d
 
   pub function-fewer : (k : ℕ) → Did (functionStep b k) n ls ls' so o o' r → left b ls' ≤ left b ls
   unfolding functionStep
-  function-fewer k d = did-fewer y (then-falls (program b) (types-fall (program b) _) (then-falls (program b) (type-falls (program b) _) (function-falls (program b) _))) d
+  function-fewer k d = did-fewer y (then-f (types-fall (counts (program b)) _) (then-f (type-falls (counts (program b)) _) (function-falls (counts (program b)) _))) d
 
 pub ranged-long : {b : Book} {start count : ℕ} {set set' : List ℕ} → Ranged b start count set set' → length set ≡ setSize → length set' ≡ setSize
 ranged-long {set = set} r l = r .ranges (listed set (constants .most)) (excludes-listed set l) .long
