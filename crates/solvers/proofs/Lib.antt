@@ -5,7 +5,6 @@ pub mod Standing
 pub mod Cleared
 pub mod Suffix
 pub mod Contexts
-pub mod Ladders
 pub mod Questions
 pub mod Steps
 pub mod Heights

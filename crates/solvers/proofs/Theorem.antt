@@ -8,6 +8,7 @@ use Rattle.book.specs.Book.{Book}
 use Rattle.book.specs.Program.{path, shared}
 use Rattle.book.specs.Decode.{term, program}
 use Rattle.book_test.specs.BookTest.{bookTest}
+use Rattle.book_test.proofs.Numbers.{test-not20}
 use Rattle.book_test.proofs.Promise.{promise}
 use Rattle.book_test.proofs.TermLaw.{term-over}
 use Rattle.solvers.specs.declared.Owed.{Owed}
@@ -25,7 +26,6 @@ use Rattle.solvers.proofs.Shared.{deepest-shared}
 use Rattle.solvers.proofs.Enough.{levels-length, enough}
 use Rattle.solvers.proofs.HostRun.{host-run}
 use Rattle.solvers.proofs.Bodies.{bodies-send}
-use Rattle.solvers.proofs.Ladders.{test-not20}
 use Rattle.solvers.proofs.Questions.{Asks, Fits, Kept}
 use Rattle.solvers.proofs.BadBook.{rule-bad}
 use Rattle.solvers.proofs.Holds.{holds, kept, reads}
