@@ -3,7 +3,6 @@ pub mod Paths
 pub mod Route
 pub mod Standing
 pub mod Cleared
-pub mod Suffix
 pub mod Contexts
 pub mod Questions
 pub mod Steps

@@ -1,5 +1,6 @@
 -- THE STACK RULE and what stands beside it in specs/StackRule.antt, proved for every book and every list of calls.
-use Prim.Native.Nat.{ℕ}
+use Prim.Native.Nat.{ℕ, suc}
+use native.Mathlib.Omega.{arith}
 use mathlib.Core.Path.{_≡_, refl, sym, ap, _∙_, subst}
 use mathlib.Core.List.{List}
 use mathlib.Core.Bool.{Bool, false}
@@ -7,6 +8,7 @@ use Rattle.basics.specs.Outcome.{Outcome, accepted, refused}
 use Rattle.book.specs.Book.{Book}
 use Rattle.book.specs.Program.{path, shared}
 use Rattle.book.specs.Decode.{term, program}
+use Rattle.book.proofs.Paths.{path-step}
 use Rattle.book_test.specs.BookTest.{bookTest}
 use Rattle.book_test.proofs.Numbers.{test-not20}
 use Rattle.book_test.proofs.Promise.{promise}
@@ -21,7 +23,6 @@ use Rattle.solvers.specs.Rule.{goalState, Present, present, run, straigh
 use Rattle.solvers.proofs.Heights.{live-height}
 use Rattle.solvers.specs.StackRule.{Complete, StackRule, Seen, NoFallback, Deepest}
 use Rattle.solvers.proofs.Good.{good}
-use Rattle.solvers.proofs.Paths.{path-step}
 use Rattle.solvers.proofs.Shared.{deepest-shared}
 use Rattle.solvers.proofs.Enough.{levels-length, enough}
 use Rattle.solvers.proofs.HostRun.{host-run}
@@ -75,7 +76,7 @@ pub no-fallback : (b : Book) → bookTest b ≡ accepted tt → NoFallback b
 no-fallback b ok =
     record {
       terms = term-over b (promise b ok);
-      paths = λ n. path-step (program b) (good b (promise b ok)) n;
+      paths = λ n. path-step (program b) (good b (promise b ok) .parents) (suc n) (omega arith);
       walks = enough b ok;
       levels = levels-length (program b) (good b (promise b ok));
     }
