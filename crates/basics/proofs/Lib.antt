@@ -6,6 +6,7 @@ pub mod Clean
 pub mod Digits
 pub mod Laws
 pub mod Places
+pub mod Refusals
 mod Writing
 mod Signs
 mod DigitArray

@@ -1,3 +1,4 @@
 pub mod Every
 pub mod Terms
 pub mod Sections
+pub mod Paths

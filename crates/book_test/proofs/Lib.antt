@@ -1,4 +1,5 @@
 pub mod Outcomes
+pub mod Numbers
 pub mod Contents
 pub mod Ranges
 pub mod Forest

@@ -1,36 +1,17 @@
 -- Climbing from a node to the root.
 use Prim.Native.Nat.{ℕ, zero, suc, _+_, _-_, _≤_, _<_}
 use native.Mathlib.Omega.{arith}
-use mathlib.Core.Path.{_≡_, refl, sym, ap, _∙_, subst}
+use mathlib.Core.Path.{_≡_, refl, sym, ap, _∙_}
 use mathlib.Core.List.{List, [], _∷_, _++_, append-assoc, append-nil}
 use lib.ListN.{length, take, set, length-set}
 use lib.Seq.{take-suc-set}
-use Rattle.basics.proofs.All.{All, end, more}
-use Rattle.book.specs.Book.{Book, contexts, size, field}
-use Rattle.book.specs.Program.{Program, nodeAt, pathUp, path, depth}
+use Rattle.book.specs.Book.{Book, contexts, size, field, depthMost}
+use Rattle.book.specs.Program.{nodeAt, pathUp, path, depth}
 use Rattle.book.specs.Decode.{program}
+use Rattle.book.proofs.Paths.{path-step}
 use Rattle.book_test.specs.Promise.{Promise}
 use Rattle.book_test.proofs.Depth.{parent-at}
 use Rattle.book_test.proofs.EveryTerm.{parent-below}
-
-module _ (p : Program) (parents : (n : ℕ) → nodeAt p (suc n) .parent ≤ n) where
-  up-same : (f g n : ℕ) → n ≤ f → n ≤ g → pathUp p f n ≡ pathUp p g n
-  unfolding pathUp
-  up-same zero zero n h k = refl
-  up-same zero (suc g) zero h k = refl
-  up-same zero (suc g) (suc n) h k = absurd (omega arith)
-  up-same (suc f) zero zero h k = refl
-  up-same (suc f) zero (suc n) h k = absurd (omega arith)
-  up-same (suc f) (suc g) zero h k = refl
-  up-same (suc f) (suc g) (suc n) h k =
-      let b = parents n in
-      ap {B = List ℕ} (λ r. suc n ∷ r) (up-same f g (nodeAt p (suc n) .parent) (omega arith) (omega arith))
-
-  -- a node's path is the node and its parent's path
-  pub path-step : (n : ℕ) → 0 < n → path p n ≡ n ∷ path p (nodeAt p n .parent)
-  unfolding path pathUp
-  path-step zero h = absurd (omega arith)
-  path-step (suc n) h = ap {B = List ℕ} (λ r. suc n ∷ r) (up-same n (nodeAt p (suc n) .parent) (nodeAt p (suc n) .parent) (parents n) (omega arith))
 
 pub parent-is : (b : Book) (node r : ℕ) → 0 < node → node ≤ size b contexts → r ≡ field b contexts (node - 1) 0 → r ≡ nodeAt (program b) node .parent
 parent-is b zero r h l e = absurd (omega arith)
@@ -43,7 +24,7 @@ parent-smaller b P zero r h e = absurd (omega arith)
 parent-smaller b P (suc k) r h e = omega (arith, parent-below b P k)
 
 -- no node of an accepted book is deeper than the limit
-pub depth-few : (b : Book) → Promise b → (n : ℕ) → n ≤ size b contexts → length (path (program b) n) ≤ 64
+pub depth-few : (b : Book) → Promise b → (n : ℕ) → n ≤ size b contexts → length (path (program b) n) ≤ depthMost
 unfolding path pathUp depth
 depth-few b P zero l = omega arith
 depth-few b P (suc k) l = P .shallow k l
@@ -51,14 +32,14 @@ depth-few b P (suc k) l = P .shallow k l
 -- the nodes found so far, and those still above
 pub record Climbing (b : Book) (node : ℕ) (nodes : List ℕ) (depth n : ℕ) : Type 0 where
   pub found : take depth nodes ++ path (program b) n ≡ path (program b) node
-  pub room : depth + length (path (program b) n) ≤ 64
+  pub room : depth + length (path (program b) n) ≤ depthMost
   pub inside : n ≤ size b contexts
-  pub long : length nodes ≡ 64
+  pub long : length nodes ≡ depthMost
 
-pub climbing-start : (b : Book) → Promise b → (node : ℕ) → node ≤ size b contexts → (nodes : List ℕ) → length nodes ≡ 64 → Climbing b node nodes 0 node
+pub climbing-start : (b : Book) → Promise b → (node : ℕ) → node ≤ size b contexts → (nodes : List ℕ) → length nodes ≡ depthMost → Climbing b node nodes 0 node
 climbing-start b P node l nodes e = record { found = refl; room = omega (arith, depth-few b P node l); inside = l; long = e }
 
-pub climbing-room : {b : Book} {node : ℕ} {nodes : List ℕ} {depth n : ℕ} → Promise b → 0 < n → Climbing b node nodes depth n → depth < 64
+pub climbing-room : {b : Book} {node : ℕ} {nodes : List ℕ} {depth n : ℕ} → Promise b → 0 < n → Climbing b node nodes depth n → depth < depthMost
 climbing-room {b} {n = n} P h c =
     let s = path-step (program b) (parent-below b P) n h in
     omega (arith, c .room, ap length s)
@@ -82,14 +63,3 @@ climbing-more {b} {node} {nodes} {depth} {n} r P h c e =
 pub climbing-done : {b : Book} {node : ℕ} {nodes : List ℕ} {depth n : ℕ} → n ≡ 0 → Climbing b node nodes depth n → take depth nodes ≡ path (program b) node
 unfolding path pathUp
 climbing-done {b} {node} {nodes} {depth} e c = sym (append-nil (take depth nodes)) ∙ (rw e at (c .found))
-
--- the nodes of a path are below the root, and none is larger than its first
-up-below : (p : Program) → ((n : ℕ) → nodeAt p (suc n) .parent ≤ n) → (m fuel n : ℕ) → n ≤ m → All (λ x. (0 < x) × (x ≤ m)) (pathUp p fuel n)
-unfolding pathUp
-up-below p parents m zero n h = end
-up-below p parents m (suc fuel) zero h = end
-up-below p parents m (suc fuel) (suc n) h = more {a = suc n} (omega arith, h) (up-below p parents m fuel (nodeAt p (suc n) .parent) (omega (arith, parents n)))
-
-pub path-below : (b : Book) → Promise b → (node : ℕ) → All (λ x. (0 < x) × (x ≤ node)) (path (program b) node)
-unfolding path
-path-below b P node = up-below (program b) (parent-below b P) node node node (omega arith)

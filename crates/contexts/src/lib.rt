@@ -3,15 +3,11 @@ ghost use mathlib.Core.Path.{_≡_};
 ghost use Prim.Native.Nat.{_≤_};
 ghost use Rattle.contexts.specs.Path.{IsNode, IsBelow, IsParent, IsPath, IsMove, popsOf};
 ghost use Rattle.book.specs.Decode.{program};
-use book::format::CONTEXT_PARENT;
-use book::format::CONTEXTS;
-
-// No node is deeper.
-pub const DEPTH: usize = 64;
+use book::format::*;
 
 // A node's path: the node itself, its parent and so on, the root left out.
 pub struct Path {
-    pub nodes: [usize; DEPTH],
+    pub nodes: [usize; DEPTH_MOST],
     pub depth: usize,
 }
 
@@ -22,8 +18,8 @@ fn parent(book: &[u8], node: usize) -> usize
     book::field(book, CONTEXTS, node - 1, CONTEXT_PARENT)
 }
 
-fn blank() -> [usize; DEPTH] {
-    [0; DEPTH]
+fn blank() -> [usize; DEPTH_MOST] {
+    [0; DEPTH_MOST]
 }
 
 pub fn path_of(book: &[u8], node: usize) -> Path

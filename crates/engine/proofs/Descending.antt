@@ -11,14 +11,12 @@ use Rattle.basics.proofs.Places.{at-none, at-as}
 use Rattle.book.specs.Book.{Book, contexts, size}
 use Rattle.book.specs.Program.{Program, nodeAt, path, depth}
 use Rattle.book.specs.Decode.{program}
+use Rattle.book.proofs.Paths.{Chain, chain, chain-drop, path-below}
 use Rattle.book_test.specs.Promise.{Promise}
-use Rattle.contexts.proofs.Climb.{path-below}
 use Rattle.smt_engines.specs.Command.{Command, Push, script}
 use Rattle.levels.specs.declared.Progress.{Progress}
 use Rattle.solvers.specs.Rule.{standing, nodeCommands, entering}
 use Rattle.solvers.proofs.Good.{good}
-use Rattle.solvers.proofs.Paths.{Chain, chain}
-use Rattle.solvers.proofs.Suffix.{chain-drop}
 use Rattle.engine.specs.Engine.{IsState, Above, Entered, Descended}
 use Rattle.engine.proofs.Entering.{said-then}
 
@@ -74,14 +72,14 @@ module _ (b : Book) (P : Promise b) (node : ℕ) (inside : node ≤ size b conte
       drop-cons q (k - 1) 0 (omega (arith, q-length, few)) ∙ (λ i. head k h m i ∷ drop (e i) q)
 
   chained : (k : ℕ) → 0 < k → k ≤ count → k ≤ long → Chain (program b) (getD nodes (k - 1) 0 ∷ drop k (path (program b) node))
-  chained k h l m = subst (Chain (program b)) (next-node k h l m) (chain-drop (program b) (k - 1) (path (program b) node) (chain (program b) (good b P) node))
+  chained k h l m = subst (Chain (program b)) (next-node k h l m) (chain-drop (program b) (k - 1) (path (program b) node) (chain (program b) (good b P .parents) node))
 
   module _ {k : ℕ} {ls : List ℕ} {so done : Progress} {o o1 : List ℕ} (h : 0 < k) (m : k ≤ long) (d : Descending b node count k ls so done o o1) where
     pub next-above : {level : ℕ} → level ≡ depth (program b) node - (k - 1) → Above b (getD nodes (k - 1) 0) level ls done
     next-above {level} e =
         let q = path (program b) node in
         let c = chained k h (d .few) m in
-        let r = all-at (path-below b P node) (k - 1) 0 (omega (arith, q-length, d .few, few)) in
+        let r = all-at (path-below (program b) (good b P .parents) node) (k - 1) 0 (omega (arith, q-length, d .few, few)) in
         let u : length (path (program b) (nodeAt (program b) (getD nodes (k - 1) 0) .parent)) ≡ length q - k = sym (ap length (c .1)) ∙ length-drop k q in
         record {
           promise = P;

@@ -12,6 +12,7 @@ use Rattle.book.specs.RExpr.{RExpr}
 use Rattle.book.specs.Program.{Context, nodeAt, path, depth}
 use Rattle.book.specs.Decode.{contextOf, term, program}
 use Rattle.book.proofs.Terms.{node-at}
+use Rattle.book.proofs.Paths.{path-step}
 use Rattle.book_test.specs.Promise.{Promise}
 use Rattle.contexts.proofs.Climb.{depth-few}
 use Rattle.smt_engines.specs.Command.{Command, Push, Assume, script}
@@ -24,7 +25,6 @@ use Rattle.levels.specs.declared.Progress.{Progress}
 use Rattle.walk.specs.Walk.{Stands, NewSymbols}
 use Rattle.solvers.specs.Rule.{standing, settle, nodeCommands}
 use Rattle.solvers.proofs.Good.{good}
-use Rattle.solvers.proofs.Paths.{path-step}
 use Rattle.solvers.proofs.Standing.{standing-stack}
 use Rattle.solvers.proofs.Enough.{levels-length}
 use Rattle.engine.specs.Engine.{stateAt, IsState, Above, Entered}
@@ -44,11 +44,6 @@ node-term b (suc k) t h l e =
 
 pub term-here : (b : Book) → Promise b → (node t : ℕ) → 0 < node → node ≤ size b contexts → t ≡ field b contexts (node - 1) 1 → t < size b terms
 term-here b P node t h l e = rw e (P .context (node - 1) (omega arith) .term)
-
--- a path is its node and the parent's path
-pub node-path : (b : Book) → Promise b → (node : ℕ) → 0 < node → path (program b) node ≡ node ∷ path (program b) (nodeAt (program b) node .parent)
-node-path b P zero h = absurd (omega arith)
-node-path b P (suc n) h = path-step (program b) (good b P) n
 
 -- the state after a push
 pub pushed : (b : Book) → Promise b → (node : ℕ) (ns : List ℕ) {level : ℕ} {ls : List ℕ} {m : Bool} → level ≡ suc (length ns)
@@ -77,7 +72,7 @@ module _ (b : Book) (P : Promise b) (node t : ℕ) {level : ℕ} {ls ls' : List 
   arrived : stateAt b node ≡ assume (levelled (program b)) (term b t) (declareNewSymbols (levelled (program b)) (program b) (term b t) s0)
   unfolding standing enter _⨟_ s0
   arrived =
-      ap (standing (program b)) (node-path b P node deep)
+      ap (standing (program b)) (path-step (program b) (good b P .parents) node deep)
       ∙ ap (λ (e : RExpr). assume (levelled (program b)) e (declareNewSymbols (levelled (program b)) (program b) e (push node (standing (program b) (path (program b) (nodeAt (program b) node .parent))))))
       (node-term b node t deep inside is)
 

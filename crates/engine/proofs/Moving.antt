@@ -11,6 +11,7 @@ use Rattle.basics.proofs.Places.{at-none, at-as}
 use Rattle.book.specs.Book.{Book, contexts, size}
 use Rattle.book.specs.Program.{path, depth, shared}
 use Rattle.book.specs.Decode.{program}
+use Rattle.book.proofs.Paths.{chain, shared-most, shared-suffix}
 use Rattle.book_test.specs.Promise.{Promise}
 use Rattle.contexts.specs.Path.{popsOf}
 use Rattle.smt_engines.specs.Command.{Command, Pop, script}
@@ -18,10 +19,8 @@ use Rattle.rsolver.specs.LevelState.{forget}
 use Rattle.levels.specs.declared.Progress.{Progress}
 use Rattle.solvers.specs.Rule.{standing, entering, moveCommands}
 use Rattle.solvers.proofs.Good.{good}
-use Rattle.solvers.proofs.Paths.{chain}
-use Rattle.solvers.proofs.Route.{shared-le}
 use Rattle.solvers.proofs.Cleared.{cleared-standing}
-use Rattle.solvers.proofs.Suffix.{shared-suffix, clear-above}
+use Rattle.solvers.proofs.Standing.{clear-above}
 use Rattle.engine.specs.Engine.{stateAt, Downward, Descended, Reached}
 use Rattle.engine.proofs.Entering.{said-then}
 
@@ -64,11 +63,11 @@ module _ {b : Book} (P : Promise b) (old new : ℕ) {count : ℕ} (pops : count 
 
   kept : depth (program b) old - count ≡ shared x y
   unfolding popsOf depth x y
-  kept = omega (arith, pops, shared-le (path (program b) old) (path (program b) new))
+  kept = omega (arith, pops, shared-most (path (program b) old) (path (program b) new))
 
   suffix : (shared x y ≤ length y) × (drop (length x - shared x y) x ≡ drop (length y - shared x y) y)
   unfolding x y
-  suffix = shared-suffix (program b) (path (program b) old) (path (program b) new) (chain (program b) (good b P) old) (chain (program b) (good b P) new)
+  suffix = shared-suffix (program b) (path (program b) old) (path (program b) new) (chain (program b) (good b P .parents) old) (chain (program b) (good b P .parents) new)
 
   pub few-kept : depth (program b) old - count ≤ depth (program b) new
   unfolding depth y

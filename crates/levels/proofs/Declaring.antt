@@ -8,7 +8,7 @@ use lib.Dec.{eqb}
 use lib.ListN.{length, getD}
 use borrow.Author.Tests.{eq-eqb, ne-eqb}
 use Rattle.basics.specs.Write.{MOST, WroteAt}
-use Rattle.book.specs.Book.{Book, types, constants, functions, lists, size, field, entries}
+use Rattle.book.specs.Book.{Book, types, constants, functions, lists, size, field, entries, userTypes}
 use Rattle.book.specs.SType.{SUserType}
 use Rattle.book.specs.Decode.{typeOf, constantOf, functionOf, program}
 use Rattle.smt_engines.specs.Command.{Command, DeclareSort, DeclareConstant, DeclareFunction, script}
@@ -38,11 +38,11 @@ module _ (b : Book) where
   type-none (suc zero) l h = did-skip _ _ _ _ h
   type-none (suc (suc k)) l h = absurd (omega arith)
 
-  pub type-some : (typ : ℕ) {n : ℕ} {ls ls1 : List ℕ} {so r : Progress} {o o1 : List ℕ} → 1 < typ → Did (userTypeStep b (typ - 2)) n ls ls1 so o o1 r → Did (typeStep b typ) n ls ls1 so o o1 r
+  pub type-some : (typ : ℕ) {n : ℕ} {ls ls1 : List ℕ} {so r : Progress} {o o1 : List ℕ} → 1 < typ → Did (userTypeStep b (typ - userTypes)) n ls ls1 so o o1 r → Did (typeStep b typ) n ls ls1 so o o1 r
   unfolding typeStep userTypeStep typeOf
   type-some zero l d = absurd (omega arith)
   type-some (suc zero) l d = absurd (omega arith)
-  type-some (suc (suc k)) l d = let e : suc (suc k) - 2 ≡ k = omega arith in rw e at d
+  type-some (suc (suc k)) l d = let e : suc (suc k) - userTypes ≡ k = omega arith in rw e at d
 
   pub types-none : (start n : ℕ) (ls : List ℕ) (so : Progress) (o : List ℕ) → so .at < MOST + 1 → Did (typesStep b start 0) n ls ls so o o so
   unfolding typesStep
@@ -64,14 +64,14 @@ module _ (b : Book) where
   variables-more start i short a e f d = did-more b (constantOf b) _ start i short a e (rw f at d)
 
   pub constant-is : (k : ℕ) {n typ : ℕ} {ls ls1 ls2 : List ℕ} {so s1 r : Progress} {o o1 o2 : List ℕ} → length o < MOST + 1
-      → typ ≡ field b constants k 1 → Did (typeStep b typ) n ls ls1 so o o1 s1 → ls2 ≡ joinAt ls1 (64 + k) n
+      → typ ≡ field b constants k 1 → Did (typeStep b typ) n ls ls1 so o o1 s1 → ls2 ≡ joinAt ls1 (constantPlaces + k) n
       → WroteAt (script (DeclareConstant (constantOf b k) ∷ [])) (s1 .at) o1 o2 (r .at) → r .missing ≡ s1 .missing → Did (constantStep b k) n ls ls2 so o o2 r
   unfolding constantStep typeStep declareConstant constantOf place
   constant-is k short e d j w m = did-then short (rw e at d) (did-told _ _ j w m)
 
   pub function-is : (k : ℕ) {n start count typ : ℕ} {ls ls1 ls2 ls3 : List ℕ} {so s1 s2 r : Progress} {o o1 o2 o3 : List ℕ} → length o < MOST + 1
       → start ≡ field b functions k 2 → count ≡ field b functions k 3 → Did (typesStep b start count) n ls ls1 so o o1 s1
-      → typ ≡ field b functions k 1 → Did (typeStep b typ) n ls1 ls2 s1 o1 o2 s2 → ls3 ≡ joinAt ls2 (320 + k) n
+      → typ ≡ field b functions k 1 → Did (typeStep b typ) n ls1 ls2 s1 o1 o2 s2 → ls3 ≡ joinAt ls2 (functionPlaces + k) n
       → WroteAt (script (DeclareFunction (functionOf b k) ∷ [])) (s2 .at) o2 o3 (r .at) → r .missing ≡ s2 .missing → length o1 ≡ length o → Did (functionStep b k) n ls ls3 so o o3 r
   unfolding functionStep typesStep typeStep declareFunction functionOf place
   function-is k short es ec a e d j w m l = did-then short (rw (es, ec) at a) (did-then (omega arith) (rw e at d) (did-told _ _ j w m))

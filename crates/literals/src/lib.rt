@@ -7,19 +7,12 @@ ghost use Rattle.book.specs.Book.{terms, size};
 ghost use Rattle.book.specs.Decode.{literalOf, program};
 ghost use Rattle.book_test.specs.Promise.{Promise, GoodLiteral};
 ghost use Rattle.solver_expr.specs.Lowering.{isTag, literalName};
-ghost use Rattle.rsolver.specs.LevelState.{levelCount, nameIn};
+ghost use Rattle.rsolver.specs.LevelState.{literalPlaces, levelCount, nameIn};
 ghost use Rattle.levels.specs.Did.{Ready, Did};
 ghost use Rattle.literals.specs.Literals.{pairText, barred, declaresName, newLiteralStep, literalStep};
 use book::count;
 use book::field;
-use book::format::CUSTOM_LITERAL;
-use book::format::KIND;
-use book::format::LITERAL_NAME;
-use book::format::LITERAL_TYPE;
-use book::format::TERMS;
-use book::format::TYPE_NAME;
-use book::format::TYPES;
-use book::format::USER_TYPES;
+use book::format::*;
 use levels::LITERAL_PLACES;
 use levels::Progress;
 use levels::declare_new_types;
@@ -83,9 +76,9 @@ fn has_name(book: &[u8], k: usize, s: &[u8], typ: &[u8]) -> bool
     let other = named(book, TERMS, k, LITERAL_NAME);
     let other_type = field(book, TERMS, k, LITERAL_TYPE);
     match other_type {
-        0 => same_pair(s, typ, other, b"bool"),
-        1 => same_pair(s, typ, other, b"int"),
-        _ => same_pair(
+        BOOL => same_pair(s, typ, other, b"bool"),
+        INT => same_pair(s, typ, other, b"int"),
+        USER_TYPES.. => same_pair(
             s,
             typ,
             other,
@@ -112,7 +105,7 @@ fn declares_name(book: &[u8], k: usize, s: &[u8], typ: &[u8], levels: &[u8]) -> 
 // Finds a declared literal by its name's text.
 fn find_literal(book: &[u8], s: &[u8], typ: &[u8], levels: &[u8]) -> bool
     requires { ⌜ Promise (now book) × (length (now levels) ≡ levelCount) ⌝ }
-    ensures { λ r. ⌜ r ≡ nameIn (barred (now (s .entry)) (now (typ .entry))) (program (now (book .entry)) .literals) (drop 576 (now (levels .entry))) ⌝ }
+    ensures { λ r. ⌜ r ≡ nameIn (barred (now (s .entry)) (now (typ .entry))) (program (now (book .entry)) .literals) (drop literalPlaces (now (levels .entry))) ⌝ }
 {
     let all = count(book, TERMS);
     let mut k = 0;
@@ -128,14 +121,14 @@ fn find_literal(book: &[u8], s: &[u8], typ: &[u8], levels: &[u8]) -> bool
 // The name of the literal that term t is, is declared.
 fn is_named(book: &[u8], t: usize, levels: &[u8]) -> bool
     requires { ⌜ Promise (now book) × (t < size (now book) terms) × GoodLiteral (now book) t × (length (now levels) ≡ levelCount) ⌝ }
-    ensures { λ r. ⌜ r ≡ nameIn (literalName (literalOf (now (book .entry)) t)) (program (now (book .entry)) .literals) (drop 576 (now (levels .entry))) ⌝ }
+    ensures { λ r. ⌜ r ≡ nameIn (literalName (literalOf (now (book .entry)) t)) (program (now (book .entry)) .literals) (drop literalPlaces (now (levels .entry))) ⌝ }
 {
     let s = named(book, TERMS, t, LITERAL_NAME);
     let typ = field(book, TERMS, t, LITERAL_TYPE);
     match typ {
-        0 => find_literal(book, s, b"bool", levels),
-        1 => find_literal(book, s, b"int", levels),
-        _ => find_literal(
+        BOOL => find_literal(book, s, b"bool", levels),
+        INT => find_literal(book, s, b"int", levels),
+        USER_TYPES.. => find_literal(
             book,
             s,
             named(book, TYPES, typ - USER_TYPES, TYPE_NAME),

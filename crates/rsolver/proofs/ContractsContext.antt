@@ -1,6 +1,5 @@
 -- The contracts of RSolver.dfy's AdjustContext, SetContext and Prove, of the bodies' state, for every program.
 use Prim.Native.Nat.{ℕ, zero, suc, _-_, _≤_, _<_}
-use native.Mathlib.Nat.{le-refl}
 use native.Mathlib.Omega.{arith}
 use mathlib.Core.Path.{_≡_, refl, ap, _∙_}
 use mathlib.Core.Bool.{Bool, true, false}
@@ -11,7 +10,8 @@ use lib.ListN.{length}
 use borrow.Author.Tests.{ltb-true, ltb-false}
 use Rattle.basics.proofs.All.{All, end, more}
 use Rattle.book.specs.RExpr.{RExpr}
-use Rattle.book.specs.Program.{Program, nodeAt, pathUp, path, depth}
+use Rattle.book.specs.Program.{Program, nodeAt, depth}
+use Rattle.book.proofs.Paths.{path-step}
 use Rattle.smt_engines.specs.Command.{Command}
 use Rattle.rsolver.specs.Step.{Step, skip, _⨟_, doUnless, unless, doEither, either}
 use Rattle.rsolver.specs.SolverState.{StackItem, SolverState, newSolver, isTop, pushed, popTo, popped, told, bodies}
@@ -92,20 +92,9 @@ module _ (p : Program) where
 
   -- RContextNode.Valid: depth == parent.depth + 1, where parents are smaller
   module _ (smaller : (n : ℕ) → nodeAt p (suc n) .parent ≤ n) where
-    path-fuel : (f g node : ℕ) → node ≤ f → node ≤ g → pathUp p f node ≡ pathUp p g node
-    unfolding pathUp
-    path-fuel zero zero node h i = refl
-    path-fuel zero (suc g) zero h i = refl
-    path-fuel zero (suc g) (suc n) h i = absurd (omega arith)
-    path-fuel (suc f) zero zero h i = refl
-    path-fuel (suc f) zero (suc n) h i = absurd (omega arith)
-    path-fuel (suc f) (suc g) zero h i = refl
-    path-fuel (suc f) (suc g) (suc n) h i =
-        ap {B = List ℕ} (λ ns. suc n ∷ ns) (path-fuel f g (nodeAt p (suc n) .parent) (omega (arith, smaller n)) (omega (arith, smaller n)))
-
     pub depth-node : (n : ℕ) → depth p (suc n) ≡ suc (depth p (nodeAt p (suc n) .parent))
-    unfolding depth path pathUp
-    depth-node n = ap (λ ns. suc (length ns)) (path-fuel n _ (nodeAt p (suc n) .parent) (smaller n) (le-refl _))
+    unfolding depth
+    depth-node n = ap length (path-step p smaller (suc n) (omega arith))
 
   -- REngine.Prove behind SetContext: when it is closed, all is as it was, whether or not a model was asked for
   ask-stack : (node : ℕ) (e : RExpr) (s : SolverState) → askGoal bodies p node e s .stack ≡ pushed node s .stack

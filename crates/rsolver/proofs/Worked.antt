@@ -11,7 +11,7 @@ use Rattle.basics.specs.Basics.{int2StringNoLeadingZero, nat2String, int2String
 use Rattle.book.specs.SType.{SType, SBool, SInt, SUserType, SConstant}
 use Rattle.book.specs.RExpr.{RExpr, RExprs, Function, Literal, BuiltInOperator, UserDefinedFunction, Boolean, Integer, CustomLiteral, Id, FuncAppl, QuantifierExpr, []ʳ, _∷ʳ_, []ᵖ, _∷ᵖ_}
 use Rattle.book.specs.Program.{Program, Axiom, Context, nodeAt, pathUp, path, depth}
-use Rattle.solver_expr.specs.SolverExpr.{flat, extraIndent, space, nameToString, toString, TRUE, FALSE, NOT, boolean, integer, id, funcAppl, negation, typeToSExpr, typeToString, typeList, typesToSExpr}
+use Rattle.solver_expr.specs.SolverExpr.{flat, extraIndent, space, nameToString, toString, boolean, integer, id, funcAppl, negation, typeToSExpr, typeToString, typeList, typesToSExpr}
 use Rattle.solver_expr.specs.Lowering.{operatorName, isTag, literalName, literalToString, boundVarToSExpr, boundVarsToSExpr, annotate, quantifier, toSExpr}
 use Rattle.smt_engines.specs.SmtEngines.{CMD_PUSH, CMD_POP, CMD_CHECK_SAT, CMD_GET_MODEL, contextToString}
 use Rattle.smt_engines.specs.Command.{assumption, declaration, commandToString}
@@ -24,7 +24,7 @@ use Rattle.rsolver.specs.LevelState.{LevelState, place, literalPlace, jo
 use Rattle.rsolver.specs.REngine.{withConstants, declareType, declareConstant, declareFunction, declareLiteral, assume, assumeNot, declareNewTypes, declareTypeOf, sendAxiom, includeAxiom, declareOperator, declareSymbols, walk, declareNewSymbols, enter, adjustContext, popTimes, setContext, askGoal}
 
 everything : Unit {0}
-unfolding same all member int2StringNoLeadingZero nat2String int2String nodeAt pathUp path depth flat extraIndent space nameToString toString TRUE FALSE NOT boolean integer id funcAppl negation typeToSExpr typeToString typeList typesToSExpr operatorName isTag literalName literalToString boundVarToSExpr boundVarsToSExpr annotate quantifier toSExpr CMD_PUSH CMD_POP CMD_CHECK_SAT CMD_GET_MODEL contextToString assumption declaration commandToString lines skip _⨟_ for doUnless unless doEither either sameMarker isIn with′ newSolver pushed popTo popped told marked named missed body.isTop place literalPlace joinAt forget count hasName nameIn noLevels fresh isTop isDeclaredAt push pop send declareAt miss withConstants declareType declareConstant declareFunction declareLiteral assume assumeNot declareNewTypes declareTypeOf sendAxiom includeAxiom declareOperator declareSymbols walk declareNewSymbols enter adjustContext popTimes setContext askGoal
+unfolding same all member int2StringNoLeadingZero nat2String int2String nodeAt pathUp path depth flat extraIndent space nameToString toString boolean integer id funcAppl negation typeToSExpr typeToString typeList typesToSExpr operatorName isTag literalName literalToString boundVarToSExpr boundVarsToSExpr annotate quantifier toSExpr CMD_PUSH CMD_POP CMD_CHECK_SAT CMD_GET_MODEL contextToString assumption declaration commandToString lines skip _⨟_ for doUnless unless doEither either sameMarker isIn with′ newSolver pushed popTo popped told marked named missed body.isTop place literalPlace joinAt forget count hasName nameIn noLevels fresh isTop isDeclaredAt push pop send declareAt miss withConstants declareType declareConstant declareFunction declareLiteral assume assumeNot declareNewTypes declareTypeOf sendAxiom includeAxiom declareOperator declareSymbols walk declareNewSymbols enter adjustContext popTimes setContext askGoal
 everything = tt
 
 z : SConstant

@@ -12,7 +12,7 @@ use Rattle.basics.proofs.Laws.{joined, wrote-then, wrote-as}
 use Rattle.book.specs.Book.{Book, names, types, terms, size, field, nameText}
 use Rattle.book.specs.Decode.{typeOf, literalOf}
 use Rattle.book_test.specs.Promise.{Promise}
-use Rattle.solver_expr.specs.SolverExpr.{nameToString, typeToString, FALSE, TRUE, NOT}
+use Rattle.solver_expr.specs.SolverExpr.{nameToString, typeToString}
 use Rattle.solver_expr.specs.Lowering.{literalName}
 use Rattle.solver_expr.specs.Values.{wordText, textOf, FineName, LiteralHere, Ready, ReadyType, ReadyLiteral}
 use Rattle.solver_expr.specs.declared.Word.{Word}
@@ -82,7 +82,7 @@ pub word-as : {w v : Word} {o o1 : List ℕ} {r : ℕ} → w ≡ v → Wrote (wo
 word-as e h = rw e h
 
 word-shown : (w : Word) → wordText w ≡ nameToString (wordText w)
-unfolding wordText nameToString FALSE TRUE NOT
+unfolding wordText nameToString
 word-shown word.False = refl
 word-shown word.True = refl
 word-shown word.Not = refl

@@ -15,14 +15,7 @@ use basics::put_int;
 use basics::put_u64;
 use basics::sum;
 use book::field;
-use book::format::BOOL;
-use book::format::INT;
-use book::format::LITERAL_NAME;
-use book::format::LITERAL_TYPE;
-use book::format::TERMS;
-use book::format::TYPE_NAME;
-use book::format::TYPES;
-use book::format::USER_TYPES;
+use book::format::*;
 use solver_expr::SExpr;
 use solver_expr::SName;
 use solver_expr::Word;
@@ -31,9 +24,9 @@ fn put_word(w: Word, out: &mut [u8]) -> usize
     ensures { λ r. ⌜ Wrote (wordText w) (now (out .entry)) (now (out .exit)) r ⌝ }
 {
     match w {
-        Word::False => put_all(&SExpr::FALSE, out),
-        Word::True => put_all(&SExpr::TRUE, out),
-        Word::Not => put_all(&SExpr::NOT, out),
+        Word::False => put_all(&SExpr::false_word(), out),
+        Word::True => put_all(&SExpr::true_word(), out),
+        Word::Not => put_all(&SExpr::not_word(), out),
         Word::Ite => put_all(b"ite", out),
         Word::Let => put_all(b"let", out),
         Word::Forall => put_all(b"forall", out),

@@ -10,7 +10,7 @@ use Rattle.basics.proofs.Clean.{Clean, clean-append, clean-nat, clean-int}
 use Rattle.book.specs.SType.{SType, SBool, SInt, SUserType, SConstant}
 use Rattle.book.specs.RExpr.{RExpr, RExprs, RPatterns, Function, Literal, ROperator, BuiltInOperator, UserDefinedFunction, Boolean, Integer, CustomLiteral, Id, FuncAppl, IfThenElse, LetExpr, QuantifierExpr, []ʳ, _∷ʳ_, []ᵖ, _∷ᵖ_}
 use Rattle.book.proofs.Every.{Asked, EveryR, EveryRs, EveryPs}
-use Rattle.solver_expr.specs.SolverExpr.{SExpr, SExprs, S, PP, []ˢ, _∷ˢ_, flat, extraIndent, space, nameToString, toString, listToString, argsToString, FALSE, TRUE, NOT, boolean, integer, id, funcAppl, negation, typeToSExpr, typeToString, typeList, typesToSExpr}
+use Rattle.solver_expr.specs.SolverExpr.{SExpr, SExprs, S, PP, []ˢ, _∷ˢ_, flat, extraIndent, space, nameToString, toString, listToString, argsToString, boolean, integer, id, funcAppl, negation, typeToSExpr, typeToString, typeList, typesToSExpr}
 use Rattle.solver_expr.specs.Lowering.{operatorName, literalName, literalToString, isTag, boundVarToSExpr, boundVarsToSExpr, annotate, quantifier, toSExpr, toSExprs, patternsToSExprs}
 
 -- ---- S-expressions over clean names
@@ -128,7 +128,7 @@ operator-clean (BuiltInOperator t) h = h
 operator-clean (UserDefinedFunction f) h = h .name
 
 boolean-clean : (b : Bool) → CleanS (boolean b)
-unfolding boolean TRUE FALSE
+unfolding boolean
 boolean-clean true = refl
 boolean-clean false = refl
 
@@ -161,5 +161,5 @@ mutual
   patterns-clean (q ∷ᵖ ps) tag h = (refl, (exprs-clean q tag (h .0), patterns-clean ps tag (h .1)))
 
 pub negation-clean : (e : SExpr) → CleanS e → CleanS (negation e)
-unfolding negation NOT
+unfolding negation
 negation-clean e h = (refl, (h, tt))

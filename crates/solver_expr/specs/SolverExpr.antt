@@ -77,19 +77,19 @@ unfoldable mutual
   argsToString (e ∷ˢ s) c = space c ++ toString e c ++ argsToString s c
 
 -- SExpr builders
-unfoldable pub FALSE : Text
+abbrev pub FALSE : Text
 FALSE = ascii "false"
 
-unfoldable pub TRUE : Text
+abbrev pub TRUE : Text
 TRUE = ascii "true"
 
-unfoldable pub EQ : Text
+abbrev pub EQ : Text
 EQ = ascii "="
 
-unfoldable pub NOT : Text
+abbrev pub NOT : Text
 NOT = ascii "not"
 
-unfoldable pub AND : Text
+abbrev pub AND : Text
 AND = ascii "and"
 
 unfoldable pub boolean : Bool → SExpr

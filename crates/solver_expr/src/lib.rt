@@ -1,6 +1,7 @@
 // SolverExpr.dfy and the first part of RSolver.dfy: S-expressions over the book, and the lowering of terms. Nothing is written here.
 ghost use mathlib.Core.Path.{_≡_};
 ghost use Rattle.book.specs.Book.{constants};
+ghost use Rattle.solver_expr.specs.SolverExpr.{FALSE, TRUE, EQ, NOT, AND};
 ghost use Rattle.solver_expr.specs.Values.{Ready, IsBoolean, IsId, IsAppl, IsNegation};
 use book::Refusal;
 use book::field;
@@ -74,6 +75,37 @@ impl SExpr {
     pub const NOT: [u8; 3] = *b"not";
 
     pub const AND: [u8; 3] = *b"and";
+
+    // The words, each as its definition has it.
+    pub fn false_word() -> [u8; 5]
+        ensures { λ r. ⌜ r ≡ FALSE ⌝ }
+    {
+        SExpr::FALSE
+    }
+
+    pub fn true_word() -> [u8; 4]
+        ensures { λ r. ⌜ r ≡ TRUE ⌝ }
+    {
+        SExpr::TRUE
+    }
+
+    pub fn eq_word() -> [u8; 1]
+        ensures { λ r. ⌜ r ≡ EQ ⌝ }
+    {
+        SExpr::EQ
+    }
+
+    pub fn not_word() -> [u8; 3]
+        ensures { λ r. ⌜ r ≡ NOT ⌝ }
+    {
+        SExpr::NOT
+    }
+
+    pub fn and_word() -> [u8; 3]
+        ensures { λ r. ⌜ r ≡ AND ⌝ }
+    {
+        SExpr::AND
+    }
 
     pub fn boolean(b: bool) -> SExpr
         ensures { λ r. ⌜ IsBoolean b r ⌝ }

@@ -15,7 +15,7 @@ use Rattle.rsolver.proofs.Related.{Keeps, skip-k, then-k, unless-r, either-k, S
 use Rattle.solvers.specs.Fallbacks.{Anything, programOr}
 use Rattle.solvers.proofs.Good.{Good}
 use Rattle.solvers.proofs.PlacedBook.{Bounded}
-use Rattle.solvers.proofs.Paths.{path-step}
+use Rattle.book.proofs.Paths.{path-step}
 
 -- what SetContext asks of two forms of the state: the stacks are alike, and a pop keeps that where there is something to pop
 pub record Stacked {S T : Type 0} (M : Methods S) (N : Methods T) (R : S → T → Type 0) : Type 0 where
@@ -63,7 +63,7 @@ module _ (x : Anything) where
       deeper : (d n : ℕ) → suc d ≡ depth p n → (0 < n) × (nodeAt p n .parent ≤ n) × (d ≡ depth p (nodeAt p n .parent))
       unfolding depth
       deeper d zero e = absurd (unfold path pathUp in omega arith)
-      deeper d (suc n) e = (omega arith, omega (arith, G .parents n), omega (arith, e, ap length (path-step p G n)))
+      deeper d (suc n) e = (omega arith, omega (arith, G .parents n), omega (arith, e, ap length (path-step p (G .parents) (suc n) (omega arith))))
 
       -- ---- moves
       module _ {S T : Type 0} {M : Methods S} {N : Methods T} {R : S → T → Type 0} (X : Stacked M N R)

@@ -8,6 +8,7 @@ use Rattle.book.specs.Book.{Book}
 use Rattle.book.specs.Program.{path, pathUp}
 use Rattle.book.specs.Decode.{term, program}
 use Rattle.book_test.specs.BookTest.{bookTest}
+use Rattle.book_test.proofs.Numbers.{test-not20}
 use Rattle.book_test.proofs.Promise.{promise}
 use Rattle.smt_engines.specs.Command.{Command, script}
 use Rattle.rsolver.specs.Step.{_⨟_}
@@ -22,7 +23,6 @@ use Rattle.solvers.specs.Session.{Written, isUnsat}
 use Rattle.solvers.specs.Calls.{Call, moveTo, askFor, replyWith, modelWith, call}
 use Rattle.solvers.specs.Rule.{standing, present, said, Trace, after, runFrom, start, run}
 use Rattle.solvers.specs.Bodies.{onReply, doCall, doIfAccepted, doFrom, doAll}
-use Rattle.solvers.proofs.Ladders.{test-not20}
 use Rattle.solvers.proofs.Standing.{sending}
 use Rattle.solvers.proofs.Questions.{stateFor, stateAt, GoalIn, Leaves, Kept}
 use Rattle.solvers.proofs.BadBook.{Refused, call-refused, run-refused}

@@ -28,7 +28,7 @@ use Rattle.solvers.specs.Calls.{Call, moveTo, askFor, replyWith, modelWi
 use Rattle.solvers.specs.Rule.{standing, goalState, questionLevels, openQuestions, Present, present, mustLive, Trace, after, start, run}
 use Rattle.solvers.specs.Bodies.{onReply, doCall, doIfAccepted, doFrom, doAll, doAllOr}
 use Rattle.solvers.specs.StackRule.{StackRule}
-use Rattle.solvers.proofs.Ladders.{test-not20}
+use Rattle.book_test.proofs.Numbers.{test-not20}
 use Rattle.solvers.proofs.Standing.{standing-stack}
 use Rattle.solvers.proofs.Questions.{Asks, stateFor, stateAt, OpenFor, Kept, denial-missing}
 use Rattle.solvers.proofs.BadBook.{Refused, run-refused}

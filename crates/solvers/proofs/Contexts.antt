@@ -9,6 +9,7 @@ use lib.ListN.{length}
 use borrow.Author.Tests.{ltb-true, ltb-false}
 use Rattle.book.specs.RExpr.{RExpr}
 use Rattle.book.specs.Program.{Program, nodeAt, pathUp, path, depth}
+use Rattle.book.proofs.Paths.{Chain, chain}
 use Rattle.solver_expr.proofs.Clean.{CleanR}
 use Rattle.smt_engines.specs.Command.{Command, Push, Pop, CheckSat}
 use Rattle.rsolver.specs.Step.{Step, skip, _⨟_, doUnless, unless, doEither, either}
@@ -18,7 +19,7 @@ use Rattle.rsolver.proofs.Declares.{Declares, sent-by, missing-down, symbols-d,
 use Rattle.rsolver.proofs.Levels.{Grown, forget-grown}
 use Rattle.solvers.specs.Rule.{standing, moveCommands, goalState, goalCommands, denialCommands, questionCommands}
 use Rattle.solvers.proofs.Good.{Good}
-use Rattle.solvers.proofs.Paths.{Chain, chain, up, down, adjust, ops}
+use Rattle.solvers.proofs.Paths.{up, down, adjust, ops}
 use Rattle.solvers.proofs.Standing.{sending, blind-sending, exec, exec-append, standing-stack, standing-within, travel}
 
 regroup : (l g d : List Command) → l ++ (Push ∷ []) ++ g ++ (Push ∷ []) ++ d ++ (CheckSat ∷ []) ≡ l ++ ((Push ∷ g) ++ (Push ∷ d) ++ (CheckSat ∷ []))
@@ -88,7 +89,7 @@ module _ (p : Program) (G : Good p) where
       let s = sending l (standing p (path p a)) in
       let f : standing p (path p a) .stack ≡ path p a = standing-stack p G (path p a) in
       ap (λ (st : List ℕ). adjustContext (levelled p) p (length (path p n)) n (popTimes (levelled p) p (length st - length (path p n)) s)) f
-      ∙ set-is (path p n) (chain p G n) n refl (path p a) s f ∙ travel p G a n e .runs l
+      ∙ set-is (path p n) (chain p (G .parents) n) n refl (path p a) s f ∙ travel p G a n e .runs l
 
   pub set-fresh : (n : ℕ) → setContext (levelled p) p n (fresh) ≡ sending (moveCommands p 0 n) (standing p (path p n))
   unfolding standing path pathUp fresh

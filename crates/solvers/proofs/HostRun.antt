@@ -16,6 +16,7 @@ use Rattle.book.specs.Book.{Book, terms, contexts, size}
 use Rattle.book.specs.Decode.{program}
 use Rattle.book_test.specs.BookTest.{bookTest}
 use Rattle.book_test.specs.Promise.{Promise}
+use Rattle.book_test.proofs.Numbers.{test-not20}
 use Rattle.book_test.proofs.Promise.{promise}
 use Rattle.rsolver.specs.LevelState.{levelCount, noLevels}
 use Rattle.solvers.specs.declared.Owed.{Owed}
@@ -28,7 +29,6 @@ use Rattle.solvers.specs.Image.{writeImage, readImage, imageAfter, calle
 use Rattle.solvers.specs.HostRun.{textLength, taken, HostTrace, hostAfter, hostRunFrom, hostRun}
 use Rattle.solvers.specs.Rule.{Present, sessionAt, Trace, after, runFrom, start, run}
 use Rattle.solvers.proofs.Good.{good}
-use Rattle.solvers.proofs.Ladders.{test-not20}
 use Rattle.solvers.proofs.Questions.{Asks, Fits}
 use Rattle.solvers.proofs.BadBook.{Refused, call-refused, after-refused}
 use Rattle.solvers.proofs.Holds.{Holds, kept, holds-after, holds-start}

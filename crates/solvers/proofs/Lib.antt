@@ -3,9 +3,7 @@ pub mod Paths
 pub mod Route
 pub mod Standing
 pub mod Cleared
-pub mod Suffix
 pub mod Contexts
-pub mod Ladders
 pub mod Questions
 pub mod Steps
 pub mod Heights

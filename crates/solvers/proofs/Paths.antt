@@ -1,5 +1,5 @@
--- Paths of a book's tree, and what SetContext does to the stack of memos.
-use Prim.Native.Nat.{ℕ, zero, suc, _≤_, _<_}
+-- What SetContext does to the stack of memos.
+use Prim.Native.Nat.{ℕ, suc, _≤_}
 use mathlib.Core.Bool.{Bool, true, false, cond}
 use mathlib.Core.Path.{_≡_, refl, sym, ap, _∙_}
 use mathlib.Core.List.{List, [], _∷_, _++_, tail}
@@ -7,47 +7,9 @@ use native.Mathlib.Omega.{arith}
 use lib.Dec.{eqb, ltb}
 use lib.ListN.{length}
 use borrow.Author.Tests.{ltb-true, ltb-false, eqb-true, lt-ltb}
-use Rattle.book.specs.Program.{Program, nodeAt, pathUp, path}
+use Rattle.book.specs.Program.{Program, path}
+use Rattle.book.proofs.Paths.{Chain}
 use Rattle.rsolver.specs.LevelState.{isTop}
-use Rattle.solvers.proofs.Good.{Good}
-
--- a list of nodes in which each is followed by its path
-abbrev pub Chain : Program → List ℕ → Type 0
-Chain B [] = Unit {0}
-Chain B (n ∷ p) = (0 < n) × (p ≡ path B (nodeAt B n .parent)) × (n ∷ p ≡ path B n) × Chain B p
-
-module _ (B : Program) (L : Good B) where
-  up-same : (f g n : ℕ) → n ≤ f → n ≤ g → pathUp B f n ≡ pathUp B g n
-  unfolding pathUp
-  up-same zero zero n h k = refl
-  up-same zero (suc g) zero h k = refl
-  up-same zero (suc g) (suc n) h k = absurd (omega arith)
-  up-same (suc f) zero zero h k = refl
-  up-same (suc f) zero (suc n) h k = absurd (omega arith)
-  up-same (suc f) (suc g) zero h k = refl
-  up-same (suc f) (suc g) (suc n) h k =
-      let b = L .parents n in
-      ap {B = List ℕ} (λ r. suc n ∷ r) (up-same f g (nodeAt B (suc n) .parent) (omega arith) (omega arith))
-
-  chain-up : (f n : ℕ) → n ≤ f → Chain B (pathUp B f n)
-  unfolding pathUp path
-  chain-up zero n h = tt
-  chain-up (suc f) zero h = tt
-  chain-up (suc f) (suc n) h =
-      let b = L .parents n in (
-        omega arith,
-        up-same f (nodeAt B (suc n) .parent) (nodeAt B (suc n) .parent) (omega arith) (omega arith),
-        ap {B = List ℕ} (λ r. suc n ∷ r) (up-same f n (nodeAt B (suc n) .parent) (omega arith) b),
-        chain-up f (nodeAt B (suc n) .parent) (omega arith),
-      )
-
-  pub chain : (n : ℕ) → Chain B (path B n)
-  unfolding path
-  chain n = chain-up n n (omega arith)
-
-  pub path-step : (n : ℕ) → path B (suc n) ≡ suc n ∷ path B (nodeAt B (suc n) .parent)
-  unfolding path pathUp
-  path-step n = ap {B = List ℕ} (λ r. suc n ∷ r) (up-same n (nodeAt B (suc n) .parent) (nodeAt B (suc n) .parent) (L .parents n) (omega arith))
 
 -- SetContext and AdjustContext as a list of operations, from the stack of memos p to the context whose path is q
 pub data Op : Type 0 where

@@ -10,8 +10,9 @@ use borrow.Author.Tests.{ltb-true, ltb-false, eqb-true, eqb-false, ne-eqb, eq-eq
 use Rattle.basics.specs.Text.{if_then_else_}
 use Rattle.basics.specs.Lists.{member}
 use Rattle.book.specs.Program.{Program, path, shared}
+use Rattle.book.proofs.Paths.{Chain, not-on, shared-most, shared-self, shared-skip, shared-new}
 use Rattle.rsolver.specs.LevelState.{isTop}
-use Rattle.solvers.proofs.Paths.{Chain, Op, up, down, adjust, ops}
+use Rattle.solvers.proofs.Paths.{Op, up, down, adjust, ops}
 
 unfoldable pub route : List ℕ → List ℕ → ℕ → List Op
 route p q s = replicate (length p - s) up ++ map down (reverse (take (length q - s) q))
@@ -20,39 +21,9 @@ map-append : {A B : Type 0} (f : A → B) (a b : List A) → map f (a ++ b) ≡ 
 map-append f [] b = refl
 map-append {B = B} f (x ∷ a) b = ap {B = List B} (λ r. f x ∷ r) (map-append f a b)
 
-pub shared-le : (p q : List ℕ) → shared p q ≤ length p
-unfolding shared
-shared-le [] q = omega arith
-shared-le (m ∷ p) q = go (member m q) (shared-le p q)
-  where
-    go : (x : Bool) → shared p q ≤ length p → (if x then suc (length p) else shared p q) ≤ suc (length p)
-    go true h = omega arith
-    go false h = omega arith
-
--- a node deeper than the whole path is not on it
-not-on : (B : Program) (m : ℕ) (q : List ℕ) → Chain B q → length q < length (path B m) → member m q ≡ false
-unfolding member
-not-on B m [] c h = refl
-not-on B m (n ∷ q) c h =
-    rw (ne-eqb m n (λ e. let k : length (n ∷ q) ≡ length (path B m) = ap length (c .2 ∙ ap (path B) (sym e)) in omega arith))
-    (not-on B m q (c .3) (omega arith))
-
-shared-skip : (B : Program) (n : ℕ) (p q : List ℕ) → Chain B p → length p < length (path B n) → shared p (n ∷ q) ≡ shared p q
-unfolding shared member
-shared-skip B n [] q c h = refl
-shared-skip B n (m ∷ p) q c h =
-    rw (
-      ne-eqb m n (λ e. let k : length (m ∷ p) ≡ length (path B n) = ap length (c .2 ∙ ap (path B) e) in omega arith),
-      shared-skip B n p q (c .3) (omega arith),
-    )
-
-drop-skip : (m : ℕ) (p q : List ℕ) → member m q ≡ false → shared (m ∷ p) q ≡ shared p q
-unfolding shared
-drop-skip m p q b = rw b
-
 first-skip : (m n : ℕ) (p q : List ℕ) → eqb m n ≡ false → member m q ≡ false → shared (m ∷ p) (n ∷ q) ≡ shared p (n ∷ q)
-unfolding shared member
-first-skip m n p q a b = rw (a, b)
+unfolding member
+first-skip m n p q a b = shared-skip m p (n ∷ q) (rw (a, b))
 
 -- one node more, at the end of both
 route-push : (p q : List ℕ) (n s : ℕ) → s ≤ length q → route p (n ∷ q) s ≡ route p q s ++ down n ∷ []
@@ -66,10 +37,6 @@ unfolding route
 route-pop m p q s h =
     let e : suc (length p) - s ≡ suc (length p - s) = omega arith in
     rw e
-
-shared-self : (m : ℕ) (p q : List ℕ) → shared (m ∷ p) (m ∷ q) ≡ suc (length p)
-unfolding shared member
-shared-self m p q = rw (eq-eqb m m refl)
 
 route-none : (p q : List ℕ) → length p ≡ length q → route p q (length p) ≡ []
 unfolding route
@@ -96,9 +63,9 @@ adjust-route B (n ∷ q) (m ∷ p) c d h = go (ltb (suc (length p)) (suc (length
         → cond x (adjust q (m ∷ p) ++ down n ∷ []) (cond y [] (up ∷ (adjust q p ++ down n ∷ []))) ≡ route (m ∷ p) (n ∷ q) (shared (m ∷ p) (n ∷ q))
     go true e y e′ f g =
         let k = ltb-true (suc (length p)) (suc (length q)) e in
-        let s = shared-skip B n (m ∷ p) q d (omega (arith, depth-n)) in
+        let s = shared-new n (m ∷ p) q (not-on B n (m ∷ p) d (omega (arith, depth-n))) in
         ap {B = List Op} (λ r. r ++ down n ∷ []) (f (omega arith))
-        ∙ sym (route-push (m ∷ p) q n (shared (m ∷ p) q) (omega (arith, shared-le (m ∷ p) q)))
+        ∙ sym (route-push (m ∷ p) q n (shared (m ∷ p) q) (omega (arith, shared-most (m ∷ p) q)))
         ∙ ap (route (m ∷ p) (n ∷ q)) (sym s)
     go false e true e′ f g =
         let k = ltb-false (suc (length p)) (suc (length q)) e in
@@ -106,10 +73,10 @@ adjust-route B (n ∷ q) (m ∷ p) c d h = go (ltb (suc (length p)) (suc (length
         sym (ap (route (m ∷ p) (n ∷ q)) s ∙ route-none (m ∷ p) (n ∷ q) (omega arith))
     go false e false e′ f g =
         let k = ltb-false (suc (length p)) (suc (length q)) e in
-        let s : shared (m ∷ p) (n ∷ q) ≡ shared p q = first-skip m n p q e′ (not-on B m q (c .3) (omega (arith, depth-m))) ∙ shared-skip B n p q (d .3) (omega (arith, depth-n)) in
+        let s : shared (m ∷ p) (n ∷ q) ≡ shared p q = first-skip m n p q e′ (not-on B m q (c .3) (omega (arith, depth-m))) ∙ shared-new n p q (not-on B n p (d .3) (omega (arith, depth-n))) in
         ap {B = List Op} (λ r. up ∷ (r ++ down n ∷ [])) (g (omega arith))
-        ∙ ap {B = List Op} (λ r. up ∷ r) (sym (route-push p q n (shared p q) (omega (arith, shared-le p q))))
-        ∙ sym (route-pop m p (n ∷ q) (shared p q) (shared-le p q))
+        ∙ ap {B = List Op} (λ r. up ∷ r) (sym (route-push p q n (shared p q) (omega (arith, shared-most p q))))
+        ∙ sym (route-pop m p (n ∷ q) (shared p q) (shared-most p q))
         ∙ ap (route (m ∷ p) (n ∷ q)) (sym s)
 
 pub ops-route : (B : Program) (q p : List ℕ) → Chain B q → Chain B p → ops q p ≡ route p q (shared p q)
@@ -121,6 +88,6 @@ ops-route B q (m ∷ p) c d = go (ltb (length q) (suc (length p))) refl (ops-rou
         → cond x (up ∷ ops q p) (adjust q (m ∷ p)) ≡ route (m ∷ p) q (shared (m ∷ p) q)
     go true e r =
         let k : length (path B m) ≡ suc (length p) = ap length (sym (d .2)) in
-        let s = drop-skip m p q (not-on B m q c (omega (arith, ltb-true (length q) (suc (length p)) e))) in
-        ap {B = List Op} (λ r. up ∷ r) r ∙ sym (route-pop m p q (shared p q) (shared-le p q)) ∙ ap (route (m ∷ p) q) (sym s)
+        let s = shared-skip m p q (not-on B m q c (omega (arith, ltb-true (length q) (suc (length p)) e))) in
+        ap {B = List Op} (λ r. up ∷ r) r ∙ sym (route-pop m p q (shared p q) (shared-most p q)) ∙ ap (route (m ∷ p) q) (sym s)
     go false e r = adjust-route B q (m ∷ p) c d (ltb-false (length q) (suc (length p)) e)

@@ -11,18 +11,9 @@ use borrow.Author.Tests.{eqb-true, eq-eqb}
 use Rattle.basics.specs.Text.{if_then_else_}
 use Rattle.basics.specs.Lists.{member}
 use Rattle.book.specs.Program.{Program, path, depth, shared}
+use Rattle.book.proofs.Paths.{Chain, chain, on-suffix}
 use Rattle.solvers.specs.StackRule.{Deepest}
 use Rattle.solvers.proofs.Good.{Good}
-use Rattle.solvers.proofs.Paths.{Chain, chain}
-
-on-depth : (B : Program) (x : ℕ) (p : List ℕ) → Chain B p → member x p ≡ true → length (path B x) ≤ length p
-unfolding member
-on-depth B x [] c h = absurd (true≢false (sym h))
-on-depth B x (m ∷ p) c h = go (eqb x m) refl (λ u. on-depth B x p (c .3) u)
-  where
-    go : (b : Bool) → eqb x m ≡ b → (member x p ≡ true → length (path B x) ≤ length p) → length (path B x) ≤ suc (length p)
-    go true e f = let k : length (m ∷ p) ≡ length (path B x) = ap length (c .2 ∙ ap (path B) (sym (eqb-true x m e))) in omega arith
-    go false e f = omega (arith, f (rw e at h))
 
 pub deepest : (B : Program) (x : ℕ) (p q : List ℕ) → Chain B p → member x p ≡ true → member x q ≡ true → length (path B x) ≤ shared p q
 unfolding member shared
@@ -31,7 +22,7 @@ deepest B x (m ∷ p) q c h k = go (member m q) refl (eqb x m) refl (λ u. deepe
   where
     go : (b : Bool) → member m q ≡ b → (d : Bool) → eqb x m ≡ d → (member x p ≡ true → length (path B x) ≤ shared p q)
         → length (path B x) ≤ (if b then suc (length p) else shared p q)
-    go true e d f g = on-depth B x (m ∷ p) c h
+    go true e d f g = on-suffix B x (m ∷ p) c h .0
     go false e true f g = absurd (true≢false (sym k ∙ ap {B = Bool} (λ y. member y q) (eqb-true x m f) ∙ e))
     go false e false f g = g (rw f at h)
 
@@ -55,5 +46,5 @@ is-shared B (m ∷ p) q c = go (member m q) refl (is-shared B p q (c .3))
 pub deepest-shared : (p : Program) → Good p → (old new : ℕ) → Deepest p old new (shared (path p old) (path p new))
 unfolding depth
 deepest-shared p G a n =
-    let c = chain p G a in
+    let c = chain p (G .parents) a in
     record { most = λ x. deepest p x (path p a) (path p n) c; met = is-shared p (path p a) (path p n) c }

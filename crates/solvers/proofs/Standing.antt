@@ -7,6 +7,7 @@ use mathlib.Core.Bool.{Bool, true, false}
 use lib.ListN.{length, replicate, take, drop}
 use Rattle.basics.proofs.All.{All, end, more, all-append}
 use Rattle.book.specs.Program.{Program, nodeAt, path, depth, shared}
+use Rattle.book.proofs.Paths.{chain, shared-most}
 use Rattle.smt_engines.specs.Command.{Command, Push, Pop}
 use Rattle.smt_engines.specs.Reader.{live, hearAll, lines}
 use Rattle.smt_engines.proofs.Commands.{Plain}
@@ -18,8 +19,8 @@ use Rattle.rsolver.proofs.Levels.{Grown, Within, within-zeros, grown-within, fo
 use Rattle.rsolver.proofs.Declares.{put, Declares, sent-by, missing-is, missing-down, then-d, assume-d, symbols-d}
 use Rattle.solvers.specs.Rule.{standing, settle, nodeCommands, levelsOf, entering, moveCommands}
 use Rattle.solvers.proofs.Good.{Good}
-use Rattle.solvers.proofs.Paths.{Chain, chain, Op, up, down, ops, applied, applied-append, Legal, Leads, leads-set}
-use Rattle.solvers.proofs.Route.{route, ops-route, shared-le}
+use Rattle.solvers.proofs.Paths.{Op, up, down, ops, applied, applied-append, Legal, Leads, leads-set}
+use Rattle.solvers.proofs.Route.{route, ops-route}
 
 -- the state, with other commands sent
 abbrev pub sending : List Command → LevelState → LevelState
@@ -65,6 +66,12 @@ module _ (p : Program) (G : Good p) where
   pub missing-above : (n : ℕ) (ns : List ℕ) → standing p (n ∷ ns) .missing ≡ false → standing p ns .missing ≡ false
   unfolding standing enter push _⨟_ settle
   missing-above n ns e = missing-down (settled n) (push n (standing p ns)) e
+
+  -- where no axiom was missed, none was missed further up
+  pub clear-above : (k : ℕ) (ns : List ℕ) → standing p ns .missing ≡ false → standing p (drop k ns) .missing ≡ false
+  clear-above zero ns e = e
+  clear-above (suc k) [] e = e
+  clear-above (suc k) (n ∷ ns) e = clear-above k ns (missing-above n ns e)
 
   -- a node's own commands, where the path is the node's
   own : (n : ℕ) (ns : List ℕ) → List Command
@@ -163,8 +170,8 @@ module _ (p : Program) (G : Good p) where
       let y = path p n in
       let k = length x - shared x y in
       let ns = reverse (take (length y - shared x y) y) in
-      let d = leads-set p y x (chain p G n) (chain p G a) in
-      let t : ops y x ≡ replicate k up ++ map down ns = ops-route p y x (chain p G n) (chain p G a) in
+      let d = leads-set p y x (chain p (G .parents) n) (chain p (G .parents) a) in
+      let t : ops y x ≡ replicate k up ++ map down ns = ops-route p y x (chain p (G .parents) n) (chain p (G .parents) a) in
       let g : Legal p (map down ns) (drop k x) =
       subst (Legal p (map down ns)) (ups-drop k x) (legal-split (replicate k up) (map down ns) x (subst (λ (o : List Op). Legal p o x) t (d .legal))) in
       let f : applied (map down ns) (drop k x) ≡ y =

@@ -13,10 +13,12 @@ use Rattle.basics.specs.Text.{Text}
 use Rattle.basics.specs.Outcome.{Outcome, accepted, refused, refuse, _>>_}
 use Rattle.basics.proofs.All.{All, end, more, all-append}
 use Rattle.basics.proofs.Bool.{or-left, or-right}
+use Rattle.basics.proofs.Refusals.{guarded, passing}
 use Rattle.book.specs.Book.{Book, terms, contexts, size}
 use Rattle.book.specs.Program.{path}
 use Rattle.book.specs.Decode.{term, program}
 use Rattle.book_test.specs.BookTest.{ready}
+use Rattle.book_test.proofs.Numbers.{ready-not20}
 use Rattle.solver_expr.proofs.Clean.{CleanR}
 use Rattle.smt_engines.specs.Command.{Command, Pop, GetModel}
 use Rattle.smt_engines.specs.Reader.{live}
@@ -32,7 +34,6 @@ use Rattle.solvers.specs.Calls.{owes, isSession, Host, fitting, moveCall
 use Rattle.solvers.specs.Bodies.{doCall, onReply}
 use Rattle.solvers.specs.Rule.{levelsOf, goalLevels, levelsFor, goalState, moveCommands, questionCommands, openQuestions, Present, present, nextReply, next, mustLive, sessionAt, replyCommands, said}
 use Rattle.solvers.proofs.Good.{Good}
-use Rattle.solvers.proofs.Ladders.{guarded, passing, ready-not20}
 use Rattle.solvers.proofs.Standing.{sending, Led, travel}
 use Rattle.solvers.proofs.Contexts.{set-context, ask-at, close-at}
 use Rattle.solvers.proofs.Questions.{Asks, Fits, stateFor, stateAt, GoalIn, OpenFor, Leaves, Kept, denial-missing, owes-nothing, owes-reply, owes-model, hears-pops, is-session, arrives, asked-at, goal-clear, hears-question, whole-question}

@@ -1,5 +1,5 @@
 -- THE STACK RULE and what stands beside it in specs/StackRule.antt, proved for every book and every list of calls.
-use Prim.Native.Nat.{ℕ}
+use Prim.Native.Nat.{ℕ, suc}
 use native.Mathlib.Omega.{arith}
 use mathlib.Core.Path.{_≡_, refl, sym, ap, _∙_, subst}
 use mathlib.Core.List.{List}
@@ -9,7 +9,9 @@ use Rattle.book.specs.Book.{Book}
 use Rattle.book.specs.Program.{path, shared}
 use Rattle.book.specs.Decode.{term, program}
 use Rattle.book.proofs.Terms.{contexts-length}
+use Rattle.book.proofs.Paths.{path-step}
 use Rattle.book_test.specs.BookTest.{bookTest}
+use Rattle.book_test.proofs.Numbers.{test-not20}
 use Rattle.book_test.proofs.Promise.{promise}
 use Rattle.book_test.proofs.TermLaw.{term-over}
 use Rattle.solvers.specs.declared.Owed.{Owed}
@@ -22,7 +24,6 @@ use Rattle.solvers.specs.Rule.{goalState, Present, present, run, straigh
 use Rattle.solvers.proofs.Heights.{live-height}
 use Rattle.solvers.specs.StackRule.{Complete, StackRule, Seen, NoFallback, Deepest}
 use Rattle.solvers.proofs.Good.{good}
-use Rattle.solvers.proofs.Paths.{path-step}
 use Rattle.solvers.proofs.Shared.{deepest-shared}
 use Rattle.solvers.proofs.PlacedBook.{bounded, term-known}
 use Rattle.solvers.proofs.Enough.{levels-length, enough, bodies-enough}
@@ -32,7 +33,6 @@ use Rattle.solvers.proofs.BehindBodies.{body-move, body-goal}
 use Rattle.solvers.proofs.HostRun.{host-run}
 use Rattle.solvers.proofs.Bodies.{bodies-send}
 use Rattle.solvers.proofs.BodiesState.{bodies-state, valid-bodies}
-use Rattle.solvers.proofs.Ladders.{test-not20}
 use Rattle.solvers.proofs.Questions.{Asks, Fits, Kept}
 use Rattle.solvers.proofs.BadBook.{rule-bad}
 use Rattle.solvers.proofs.Holds.{holds, kept, reads}
@@ -93,7 +93,7 @@ no-fallback b ok =
       termBytes = term-same b P;
       kinds = λ t l. P .term t l .known;
       children = term-over b P;
-      paths = path-step (program b) G;
+      paths = λ n. path-step (program b) (G .parents) (suc n) (omega arith);
       levels = levels-length (program b) G;
       walks = enough b P;
       bodyWalks = bodies-enough (program b);

@@ -11,9 +11,10 @@ use Rattle.basics.proofs.Laws.{joined, wrote-none, wrote-then, wrote-as}
 use Rattle.book.specs.Book.{Book, contexts, size, depthMost}
 use Rattle.book.specs.Program.{nodeAt, path}
 use Rattle.book.specs.Decode.{program}
+use Rattle.book.proofs.Paths.{path-below}
 use Rattle.book_test.specs.Promise.{Promise}
+use Rattle.book_test.proofs.EveryTerm.{parent-below}
 use Rattle.contexts.specs.Path.{IsBelow}
-use Rattle.contexts.proofs.Climb.{path-below}
 use Rattle.rsolver.specs.Trace.{traceLine, traceOf, printTrace}
 
 -- The code's path is the first `whole` of its nodes. Written is what those from `depth` on have.
@@ -34,7 +35,7 @@ module _ (b : Book) (P : Promise b) (node : ℕ) (inside : node ≤ size b conte
   node-below i h =
       let l : i < length (path (program b) node) = omega (arith, ap length is, length-take whole nodes) in
       let e : getD (path (program b) node) i 0 ≡ getD nodes i 0 = ap (λ (ns : List ℕ). getD ns i 0) (sym is) ∙ getD-take whole nodes i 0 h in
-      let r = rw e at (all-at (path-below b P node) i 0 l) in
+      let r = rw e at (all-at (path-below (program b) (parent-below b P) node) i 0 l) in
       record { promise = P; inside = omega (arith, r .1, inside); below = r .0 }
 
   -- one turn: its line is written behind the others

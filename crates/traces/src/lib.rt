@@ -42,7 +42,7 @@ fn trace_line(book: &[u8], node: usize, out: &mut [u8]) -> usize
 }
 
 // Writes the traces of a node's path, from the root down.
-pub fn print_trace(book: &[u8], node: usize, out: &mut [u8]) -> usize
+fn print_trace(book: &[u8], node: usize, out: &mut [u8]) -> usize
     requires { ⌜ IsNode (now book) node ⌝ }
     ensures { λ r. ⌜ Wrote (printTrace (program (now (book .entry))) node) (now (out .entry)) (now (out .exit)) r ⌝ }
 {

@@ -16,7 +16,7 @@ use Rattle.book_terms.specs.Terms.{isZero, uses, kindInRange, termInRange, term
 use Rattle.book_forest.specs.Forest.{entryReference, rangeReferences, patternReferences, listedReferences, kindReferences, termReferences, axiomReferences, contextReferences, references, allSmaller, noTwice, isForest}
 use Rattle.book_depth.specs.Depth.{steps, nodeDepth, isShallow, shallow}
 use Rattle.book_test.specs.BookTest.{inRange, bookTest, ready, testedValue, bookTestCall}
-use Rattle.solver_expr.specs.SolverExpr.{typeToSExpr, typeList, typesToSExpr, typeToString, flat, extraIndent, space, nameToString, toString, listToString, argsToString, FALSE, TRUE, EQ, NOT, AND, boolean, integer, id, funcAppl, eq, negation, bigAnd}
+use Rattle.solver_expr.specs.SolverExpr.{typeToSExpr, typeList, typesToSExpr, typeToString, flat, extraIndent, space, nameToString, toString, listToString, argsToString, boolean, integer, id, funcAppl, eq, negation, bigAnd}
 use Rattle.solver_expr.specs.Lowering.{operatorName, isTag, literalName, literalToString, boundVarToSExpr, boundVarsToSExpr, annotate, quantifier, toSExpr, toSExprs, patternsToSExprs}
 use Rattle.solver_expr.specs.Operators.{operatorToString, operatorOf}
 use Rattle.solver_expr.specs.Print.{printedValue, printed, fitting as fittingText, printText, printCall, operatorText, operatorCall}
@@ -43,7 +43,7 @@ testing = tt
 
 -- what a book holds, and how it is printed
 unfoldable pub printing : Unit {0}
-unfolding int2StringNoLeadingZero nat2String int2String int64 comma seqToString nodeAt pathUp path depth toRExprs toRPatterns typeOf constantOf functionOf literalOf argsOf patternOf termBy termOver firstTerms term literalBy literalAt axiomTerm axiomOf traceOf contextOf program typeToSExpr typeList typesToSExpr typeToString flat extraIndent space nameToString toString listToString argsToString FALSE TRUE EQ NOT AND boolean integer id funcAppl eq negation bigAnd operatorName isTag literalName literalToString boundVarToSExpr boundVarsToSExpr annotate quantifier toSExpr toSExprs patternsToSExprs operatorToString operatorOf printedValue printed fittingText printText printCall operatorText operatorCall
+unfolding int2StringNoLeadingZero nat2String int2String int64 comma seqToString nodeAt pathUp path depth toRExprs toRPatterns typeOf constantOf functionOf literalOf argsOf patternOf termBy termOver firstTerms term literalBy literalAt axiomTerm axiomOf traceOf contextOf program typeToSExpr typeList typesToSExpr typeToString flat extraIndent space nameToString toString listToString argsToString boolean integer id funcAppl eq negation bigAnd operatorName isTag literalName literalToString boundVarToSExpr boundVarsToSExpr annotate quantifier toSExpr toSExprs patternsToSExprs operatorToString operatorOf printedValue printed fittingText printText printCall operatorText operatorCall
 printing = tt
 
 -- the solver's state and engine, and what they send

@@ -1,4 +1,3 @@
-use Rattle.solver_expr.specs.SolverExpr.{FALSE, TRUE, NOT}
 use Rattle.solver_expr.specs.Values.{wordText}
 use Rattle.sexpr_names.proofs.NameText.{word-as}
 use borrow.Author.Needs.{needs}
@@ -6,16 +5,16 @@ use Rattle.sexpr_names.proofs.put_word.Statement.{statement}
 use Rattle.sexpr_names.proofs.put_word.Tie as tie
 
 returns : tie.Need-returns
-unfolding wordText FALSE
-returns c = word-as (c .before .before .before .before .before .enum-told .given .1) (c .before .before .put-all .ensures)
+unfolding wordText
+returns c = word-as (c .before .before .before .before .before .before .enum-told .given .1) (rw (c .before .before .before .before .before .false-word .ensures) at (c .before .before .put-all .ensures))
 
 returns-2 : tie.Need-returns-2
-unfolding wordText TRUE
-returns-2 c = word-as (c .before .before .before .before .before .enum-told2 .given .1) (c .before .before .put-all2 .ensures)
+unfolding wordText
+returns-2 c = word-as (c .before .before .before .before .before .before .enum-told2 .given .1) (rw (c .before .before .before .before .before .true-word .ensures) at (c .before .before .put-all2 .ensures))
 
 returns-3 : tie.Need-returns-3
-unfolding wordText NOT
-returns-3 c = word-as (c .before .before .before .before .before .enum-told3 .given .1) (c .before .before .put-all3 .ensures)
+unfolding wordText
+returns-3 c = word-as (c .before .before .before .before .before .before .enum-told3 .given .1) (rw (c .before .before .before .before .before .not-word .ensures) at (c .before .before .put-all3 .ensures))
 
 returns-4 : tie.Need-returns-4
 unfolding wordText
@@ -54,12 +53,15 @@ put-word-spec =
     tie.close
     (tie.spec
     (λ c. search needs)
+    (λ c κs. search needs)
     (λ c. search needs)
     (λ c κs. search needs)
     (λ c. search needs)
+    (λ c κs. search needs)
     (λ c. search needs)
     (λ c κs. search needs)
     (λ c. search needs)
+    (λ c κs. search needs)
     (λ c. search needs)
     (λ c κs. search needs)
     (λ c. search needs)
