@@ -14,3 +14,6 @@ pub use write::put_all;
 pub use write::repeat;
 pub use write::spaces;
 pub use write::sum;
+
+// The least scratch that a call takes.
+pub const SCRATCH_LEAST: usize = 1024;

@@ -1,4 +1,4 @@
-// The book's numbers: its sections, its records' fields, term kinds and type numbers.
+// The book's numbers: its sections and limits, its records' fields, term kinds and type numbers.
 
 // The sections, by their places in the table of contents.
 pub const LETTERS: usize = 0;
@@ -25,6 +25,30 @@ pub const SECTIONS: usize = 10;
 
 // The size of each section's records.
 pub const SIZES: [usize; SECTIONS] = [1, 8, 4, 8, 24, 12, 8, 28, 12, 4];
+
+// The largest count of each section.
+pub const LETTERS_MOST: usize = 8192;
+
+pub const NAMES_MOST: usize = 512;
+
+pub const TYPES_MOST: usize = 64;
+
+pub const CONSTANTS_MOST: usize = 256;
+
+pub const FUNCTIONS_MOST: usize = 128;
+
+pub const AXIOMS_MOST: usize = 128;
+
+pub const PATTERNS_MOST: usize = 128;
+
+pub const TERMS_MOST: usize = 1024;
+
+pub const CONTEXTS_MOST: usize = 512;
+
+pub const LISTS_MOST: usize = 2048;
+
+// A node's depth is at most this.
+pub const DEPTH_MOST: usize = 64;
 
 // The size of the table of contents.
 pub const CONTENTS: usize = 80;

@@ -6,13 +6,22 @@ ghost use Rattle.book.specs.Book.{sections, contentsSize};
 ghost use Rattle.book.specs.Laid.{sectionAt};
 ghost use Rattle.book_contents.specs.Contents.{laidFrom, laidOut, countFits, countsFit};
 use book::count;
-use book::format::CONTENTS;
-use book::format::SECTIONS;
-use book::format::SIZES;
+use book::format::*;
 use book::offset;
 
 // The largest count of each section.
-const LIMITS: [usize; SECTIONS] = [8192, 512, 64, 256, 128, 128, 128, 1024, 512, 2048];
+const LIMITS: [usize; SECTIONS] = [
+    LETTERS_MOST,
+    NAMES_MOST,
+    TYPES_MOST,
+    CONSTANTS_MOST,
+    FUNCTIONS_MOST,
+    AXIOMS_MOST,
+    PATTERNS_MOST,
+    TERMS_MOST,
+    CONTEXTS_MOST,
+    LISTS_MOST,
+];
 
 // Whether each section begins where the one before ends, and the last ends the book.
 // Ten sections of 28 bytes times a 32-bit count stay far below 2^64.

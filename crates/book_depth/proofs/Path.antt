@@ -15,14 +15,14 @@ use Rattle.book_depth.specs.Rooted.{Rooted}
 
 -- the depths of the root and the first i nodes stand in the table
 pub record Known (b : Book) (ds : List ℕ) (i : ℕ) : Type 0 where
-  pub long : length ds ≡ 513
+  pub long : length ds ≡ contexts .most + 1
   pub each : (k : ℕ) → k ≤ i → getD ds k 0 ≡ nodeDepth b k
 
-pub root-known : (b : Book) (ds : List ℕ) → ds ≡ replicate 513 0 → Known b ds 0
+pub root-known : (b : Book) (ds : List ℕ) → ds ≡ replicate (contexts .most + 1) 0 → Known b ds 0
 unfolding nodeDepth steps
 root-known b ds e =
     record {
-      long = ap {B = ℕ} length e ∙ length-replicate {A = ℕ} 513 0;
+      long = ap {B = ℕ} length e ∙ length-replicate {A = ℕ} (contexts .most + 1) 0;
       each = λ k l. let z : k ≡ 0 = omega arith in rw (z, e);
     }
 
@@ -53,7 +53,7 @@ module _ (b : Book) (R : Rooted b) where
         let h : p ≤ i = omega (arith, R .parent i l) in
         below-parent i l ∙ rw (← e) (ap suc (sym (known .each p h)))
 
-    pub next-known : i + 1 < 513 → Known b (set ds (i + 1) (getD ds p 0 + 1)) (i + 1)
+    pub next-known : i + 1 < contexts .most + 1 → Known b (set ds (i + 1) (getD ds p 0 + 1)) (i + 1)
     next-known s = record { long = length-set ds (i + 1) (getD ds p 0 + 1) ∙ known .long; each = λ k h. by k h (ℕ-discrete k (i + 1)) }
       where
         by : (k : ℕ) → k ≤ i + 1 → Dec (k ≡ i + 1) → getD (set ds (i + 1) (getD ds p 0 + 1)) k 0 ≡ nodeDepth b k

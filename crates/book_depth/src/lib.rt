@@ -1,5 +1,6 @@
 // Refusal 6: no node is deeper than the limit.
 ghost use mathlib.Core.Path.{_≡_};
+ghost use Prim.Native.Nat.{_+_};
 ghost use lib.ListN.{replicate};
 ghost use Rattle.book.specs.Book.{contexts};
 ghost use Rattle.book.specs.Laid.{Laid};
@@ -9,13 +10,14 @@ use book::count;
 use book::field;
 use book::format::*;
 
-const DEPTH_MOST: u8 = 64;
+// The limit, as a byte.
+const DEEPEST: u8 = DEPTH_MOST as u8;
 
 // The root, and as many nodes as there can be contexts.
-const NODES: usize = 513;
+const NODES: usize = CONTEXTS_MOST + 1;
 
 fn no_depths() -> [u8; NODES]
-    ensures { λ r. ⌜ r ≡ replicate 513 0 ⌝ }
+    ensures { λ r. ⌜ r ≡ replicate (contexts .most + 1) 0 ⌝ }
 {
     [0u8; NODES]
 }
@@ -31,7 +33,7 @@ pub fn shallow(book: &[u8]) -> bool
     while i < n {
         let parent = field(book, CONTEXTS, i, CONTEXT_PARENT);
         let depth = depths[parent];
-        if DEPTH_MOST <= depth {
+        if DEEPEST <= depth {
             return false;
         }
         depths[i + 1] = depth + 1;

@@ -1,6 +1,7 @@
 // The test of a book: refusals 1 to 6, each of 2 to 6 decided for the whole book before the next.
 ghost use mathlib.Core.Path.{_≡_};
 ghost use Rattle.book_test.specs.BookTest.{testedValue, bookTestCall};
+use basics::SCRATCH_LEAST;
 use book::Refusal;
 use book_contents::counts_fit;
 use book_contents::laid_out;
@@ -15,8 +16,6 @@ pub enum Tested {
     Good,
     Refused(Refusal),
 }
-
-const SCRATCH_LEAST: usize = 1024;
 
 // The scratch is all zero afterwards, except under refusal 1, where it isn't touched.
 pub fn book_test(book: &[u8], scratch: &mut [u8]) -> Tested

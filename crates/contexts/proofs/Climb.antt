@@ -5,7 +5,7 @@ use mathlib.Core.Path.{_≡_, refl, sym, ap, _∙_}
 use mathlib.Core.List.{List, [], _∷_, _++_, append-assoc, append-nil}
 use lib.ListN.{length, take, set, length-set}
 use lib.Seq.{take-suc-set}
-use Rattle.book.specs.Book.{Book, contexts, size, field}
+use Rattle.book.specs.Book.{Book, contexts, size, field, depthMost}
 use Rattle.book.specs.Program.{nodeAt, pathUp, path, depth}
 use Rattle.book.specs.Decode.{program}
 use Rattle.book.proofs.Paths.{path-step}
@@ -24,7 +24,7 @@ parent-smaller b P zero r h e = absurd (omega arith)
 parent-smaller b P (suc k) r h e = omega (arith, parent-below b P k)
 
 -- no node of an accepted book is deeper than the limit
-pub depth-few : (b : Book) → Promise b → (n : ℕ) → n ≤ size b contexts → length (path (program b) n) ≤ 64
+pub depth-few : (b : Book) → Promise b → (n : ℕ) → n ≤ size b contexts → length (path (program b) n) ≤ depthMost
 unfolding path pathUp depth
 depth-few b P zero l = omega arith
 depth-few b P (suc k) l = P .shallow k l
@@ -32,14 +32,14 @@ depth-few b P (suc k) l = P .shallow k l
 -- the nodes found so far, and those still above
 pub record Climbing (b : Book) (node : ℕ) (nodes : List ℕ) (depth n : ℕ) : Type 0 where
   pub found : take depth nodes ++ path (program b) n ≡ path (program b) node
-  pub room : depth + length (path (program b) n) ≤ 64
+  pub room : depth + length (path (program b) n) ≤ depthMost
   pub inside : n ≤ size b contexts
-  pub long : length nodes ≡ 64
+  pub long : length nodes ≡ depthMost
 
-pub climbing-start : (b : Book) → Promise b → (node : ℕ) → node ≤ size b contexts → (nodes : List ℕ) → length nodes ≡ 64 → Climbing b node nodes 0 node
+pub climbing-start : (b : Book) → Promise b → (node : ℕ) → node ≤ size b contexts → (nodes : List ℕ) → length nodes ≡ depthMost → Climbing b node nodes 0 node
 climbing-start b P node l nodes e = record { found = refl; room = omega (arith, depth-few b P node l); inside = l; long = e }
 
-pub climbing-room : {b : Book} {node : ℕ} {nodes : List ℕ} {depth n : ℕ} → Promise b → 0 < n → Climbing b node nodes depth n → depth < 64
+pub climbing-room : {b : Book} {node : ℕ} {nodes : List ℕ} {depth n : ℕ} → Promise b → 0 < n → Climbing b node nodes depth n → depth < depthMost
 climbing-room {b} {n = n} P h c =
     let s = path-step (program b) (parent-below b P) n h in
     omega (arith, c .room, ap length s)

@@ -2,7 +2,7 @@
 use Prim.Native.Nat.{ℕ, _-_, _<_, _≤_}
 use mathlib.Core.Path.{_≡_}
 use lib.ListN.{take}
-use Rattle.book.specs.Book.{Book, contexts, size}
+use Rattle.book.specs.Book.{Book, contexts, size, depthMost}
 use Rattle.book.specs.Program.{Program, nodeAt, path, depth, shared}
 use Rattle.book.specs.Decode.{program}
 use Rattle.book_test.specs.Promise.{Promise}
@@ -26,7 +26,7 @@ pub record IsParent (b : Book) (node r : ℕ) : Type 0 where
 -- the code's path: the nodes from the node itself up to the root's child
 pub record IsPath (b : Book) (node : ℕ) (r : code.Path) : Type 0 where
   pub is : take (r .depth) (r .nodes) ≡ path (program b) node
-  pub few : r .depth ≤ 64
+  pub few : r .depth ≤ depthMost
 
 -- a move from one node of an accepted book to another
 pub record IsMove (b : Book) (old new : ℕ) : Type 0 where

@@ -5,13 +5,11 @@ ghost use Rattle.contexts.specs.Path.{IsNode, IsBelow, IsParent, IsPath,
 ghost use Rattle.book.specs.Decode.{program};
 use book::format::CONTEXT_PARENT;
 use book::format::CONTEXTS;
-
-// No node is deeper.
-pub const DEPTH: usize = 64;
+use book::format::DEPTH_MOST;
 
 // A node's path: the node itself, its parent and so on, the root left out.
 pub struct Path {
-    pub nodes: [usize; DEPTH],
+    pub nodes: [usize; DEPTH_MOST],
     pub depth: usize,
 }
 
@@ -22,8 +20,8 @@ fn parent(book: &[u8], node: usize) -> usize
     book::field(book, CONTEXTS, node - 1, CONTEXT_PARENT)
 }
 
-fn blank() -> [usize; DEPTH] {
-    [0; DEPTH]
+fn blank() -> [usize; DEPTH_MOST] {
+    [0; DEPTH_MOST]
 }
 
 pub fn path_of(book: &[u8], node: usize) -> Path

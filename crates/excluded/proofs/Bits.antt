@@ -1,5 +1,5 @@
 -- Bits of a byte, and sets of constants.
-use Prim.Native.Nat.{ℕ, zero, suc, _+_, _*_, _/_, _%_, _<_, _≤_}
+use Prim.Native.Nat.{ℕ, zero, suc, _+_, _*_, _^_, _/_, _%_, _<_, _≤_}
 use native.Mathlib.Nat.{div-one, div-div-eq-div-mul}
 use native.Mathlib.Numerals.{add-one}
 use native.Mathlib.Omega.{arith}
@@ -11,10 +11,10 @@ use lib.ListN.{length, getD, set, length-set}
 use lib.Seq.{getD-set-same, getD-set-other}
 use borrow.Author.Tests.{eq-eqb, ne-eqb, eqb-true, eqb-false}
 use Rattle.basics.specs.Lists.{member}
-use Rattle.book.specs.Book.{Book, lists, field, entries}
+use Rattle.book.specs.Book.{Book, constants, lists, field, entries}
 use Rattle.book.specs.Decode.{constantOf}
 use Rattle.rsolver.specs.REngine.{withConstants}
-use Rattle.excluded.specs.Excluded.{powers, power, hasBit, isExcluded, Excludes, Joined, withRange, Ranged}
+use Rattle.excluded.specs.Excluded.{setSize, powers, power, hasBit, isExcluded, Excludes, Joined, withRange, Ranged}
 
 -- ---- one byte, bit by bit from the lowest
 bit : ℕ → ℕ → ℕ
@@ -63,7 +63,7 @@ bit-new i x l z = bit-at i (x + power i) l ∙ rw (power-is i l) (bit-added i x 
 bit-kept : (i j x : ℕ) → i < 8 → j < 8 → (j ≡ i → ⊥) → (x / power i % 2 ≡ 1 → ⊥) → (x + power i) / power j % 2 ≡ x / power j % 2
 bit-kept i j x l m n z = bit-at j (x + power i) m ∙ rw (power-is i l) (bit-other i j x n (λ e. z (bit-at i x l ∙ e))) ∙ sym (bit-at j x m)
 
-room : (i x : ℕ) → i < 8 → x < 256 → (x / power i % 2 ≡ 1 → ⊥) → x + power i < 256
+room : (i x : ℕ) → i < 8 → x < 2 ^ 8 → (x / power i % 2 ≡ 1 → ⊥) → x + power i < 2 ^ 8
 room zero x l h z = omega (arith, z)
 room (suc zero) x l h z = omega (arith, z)
 room (suc (suc zero)) x l h z = omega (arith, z)
@@ -94,7 +94,7 @@ clear : (set : List ℕ) (v : ℕ) → isExcluded set v ≡ false → getD set (
 unfolding isExcluded hasBit
 clear set v e = eqb-false _ _ e
 
-pub bit-room : (x i : ℕ) → i < 8 → hasBit x i ≡ false → x < 256 → x + power i < 256
+pub bit-room : (x i : ℕ) → i < 8 → hasBit x i ≡ false → x < 2 ^ 8 → x + power i < 2 ^ 8
 unfolding hasBit
 bit-room x i l e h = room i x l h (eqb-false _ _ e)
 
@@ -102,14 +102,14 @@ pub bit-clear : (set : List ℕ) (v : ℕ) → isExcluded set v ≡ false → ha
 unfolding isExcluded
 bit-clear set v e = e
 
-pub joined-old : {s : List ℕ} {v : ℕ} → length s ≡ 32 → isExcluded s v ≡ true → Joined s s v
+pub joined-old : {s : List ℕ} {v : ℕ} → length s ≡ setSize → isExcluded s v ≡ true → Joined s s v
 joined-old {s} {v} l e = record { long = l; joins = λ w h. at w (eqb w v) refl }
   where
     at : (w : ℕ) (t : Bool) → eqb w v ≡ t → isExcluded s w ≡ (t || isExcluded s w)
     at w true q = ap (isExcluded s) (eqb-true w v q) ∙ e
     at w false q = refl
 
-module _ (s : List ℕ) (v : ℕ) {y : ℕ} (is : y ≡ getD s (v / 8) 0 + power (v % 8)) (long : length s ≡ 32) (small : v < 256) (new : isExcluded s v ≡ false) where
+module _ (s : List ℕ) (v : ℕ) {y : ℕ} (is : y ≡ getD s (v / 8) 0 + power (v % 8)) (long : length s ≡ setSize) (small : v < constants .most) (new : isExcluded s v ≡ false) where
   abbrev more : List ℕ
   more = set s (v / 8) y
 
@@ -214,5 +214,5 @@ listed-below s (suc n) v h = at (isExcluded s n) refl (eqb v n) refl (λ l. list
     at false q true r up = ap (isExcluded s) (eqb-true v n r) ∙ q ∙ sym (listed-above s n v (omega (arith, eqb-true v n r)))
     at false q false r up = up (omega (arith, eqb-false v n r))
 
-pub excludes-listed : (s : List ℕ) → length s ≡ 32 → Excludes s (listed s 256)
-excludes-listed s l = record { long = l; same = λ v h. listed-below s 256 v h }
+pub excludes-listed : (s : List ℕ) → length s ≡ setSize → Excludes s (listed s (constants .most))
+excludes-listed s l = record { long = l; same = λ v h. listed-below s (constants .most) v h }

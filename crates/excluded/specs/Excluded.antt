@@ -6,13 +6,13 @@ use mathlib.Core.List.{List, [], _∷_, map}
 use lib.Dec.{eqb}
 use lib.ListN.{length, getD}
 use Rattle.basics.specs.Lists.{member}
-use Rattle.book.specs.Book.{Book, entries}
+use Rattle.book.specs.Book.{Book, constants, entries}
 use Rattle.book.specs.Decode.{constantOf}
 use Rattle.rsolver.specs.REngine.{withConstants}
 
--- the set's bytes
+-- the set's bytes, of eight bits each
 abbrev pub setSize : ℕ
-setSize = 32
+setSize = constants .most / 8
 
 -- what each bit of a byte counts
 abbrev pub powers : List ℕ
@@ -30,12 +30,12 @@ isExcluded set v = hasBit (getD set (v / 8) 0) (v % 8)
 -- the set holds the constants of the list
 pub record Excludes (set exclude : List ℕ) : Type 0 where
   pub long : length set ≡ setSize
-  pub same : (v : ℕ) → v < 256 → isExcluded set v ≡ member v exclude
+  pub same : (v : ℕ) → v < constants .most → isExcluded set v ≡ member v exclude
 
 -- the set with one more
 pub record Joined (set set' : List ℕ) (v : ℕ) : Type 0 where
   pub long : length set' ≡ setSize
-  pub joins : (w : ℕ) → w < 256 → isExcluded set' w ≡ (eqb w v || isExcluded set w)
+  pub joins : (w : ℕ) → w < constants .most → isExcluded set' w ≡ (eqb w v || isExcluded set w)
 
 -- exclude with the constants in a range of lists
 unfoldable pub withRange : Book → (start count : ℕ) → List ℕ → List ℕ

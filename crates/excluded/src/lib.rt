@@ -1,4 +1,4 @@
-// The constants that a walk leaves out, as a set by value: 32 bytes, a bit for each of 256 numbers.
+// The constants that a walk leaves out, as a set by value: a bit for each number.
 ghost use mathlib.Core.Path.{_≡_};
 ghost use mathlib.Core.Bool.{false};
 ghost use mathlib.Core.List.{[]};
@@ -8,10 +8,12 @@ ghost use Rattle.book.specs.Book.{constants, size};
 ghost use Rattle.book_test.specs.Promise.{Promise, Range};
 ghost use Rattle.excluded.specs.Excluded.{setSize, power, hasBit, isExcluded, Excludes, Joined, Ranged};
 use book::field;
+use book::format::CONSTANTS_MOST;
 use book::format::LISTED;
 use book::format::LISTS;
 
-pub const SIZE: usize = 32;
+// The set's bytes, of eight bits each.
+pub const SIZE: usize = CONSTANTS_MOST / 8;
 
 // What each bit of a byte counts.
 const POWERS: [u8; 8] = [1, 2, 4, 8, 16, 32, 64, 128];
@@ -25,7 +27,7 @@ pub fn nothing() -> [u8; SIZE]
 
 // Constant v is in the set.
 pub fn has(set: &[u8; SIZE], v: usize) -> bool
-    requires { ⌜ (length (now set) ≡ setSize) × (v < 256) ⌝ }
+    requires { ⌜ (length (now set) ≡ setSize) × (v < constants .most) ⌝ }
     ensures { λ r. ⌜ r ≡ isExcluded (now (set .entry)) v ⌝ }
 {
     set[v / 8] / POWERS[v % 8] % 2 == 1
@@ -41,7 +43,7 @@ fn with_bit(byte: u8, i: usize) -> u8
 
 // The set with constant v.
 pub fn with(set: &[u8; SIZE], v: usize) -> [u8; SIZE]
-    requires { ⌜ (length (now set) ≡ setSize) × (v < 256) ⌝ }
+    requires { ⌜ (length (now set) ≡ setSize) × (v < constants .most) ⌝ }
     ensures { λ r. ⌜ Joined (now (set .entry)) r v ⌝ }
 {
     let mut all = *set;

@@ -5,7 +5,7 @@ ghost use lib.ListN.{length, drop};
 ghost use Rattle.book.specs.Book.{word};
 ghost use Rattle.solvers.specs.Image.{imageSize, headSize, bytes4, owedNumber, owedOf, noSession, isImage, readImage, writeImage};
 ghost use Rattle.images.specs.Placed.{placed};
-use session_levels::LEVELS;
+use session_levels::LEVEL_COUNT;
 use solvers::Owed;
 use solvers::Session;
 
@@ -20,7 +20,7 @@ const OWED_AT: usize = 12;
 
 const LEVELS_AT: usize = 16;
 
-pub const IMAGE: usize = LEVELS_AT + LEVELS;
+pub const IMAGE: usize = LEVELS_AT + LEVEL_COUNT;
 
 // The only layout.
 const KIND: u32 = 1;
@@ -105,7 +105,7 @@ fn no_session() -> Session
     }
 }
 
-fn levels_of(image: &[u8]) -> [u8; LEVELS]
+fn levels_of(image: &[u8]) -> [u8; LEVEL_COUNT]
     requires { ⌜ length (now image) ≡ imageSize ⌝ }
     ensures { λ r. ⌜ r ≡ drop headSize (now (image .entry)) ⌝ }
 {

@@ -64,14 +64,14 @@ module _ (b : Book) where
   variables-more start i short a e f d = did-more b (constantOf b) _ start i short a e (rw f at d)
 
   pub constant-is : (k : ℕ) {n typ : ℕ} {ls ls1 ls2 : List ℕ} {so s1 r : Progress} {o o1 o2 : List ℕ} → length o < MOST + 1
-      → typ ≡ field b constants k 1 → Did (typeStep b typ) n ls ls1 so o o1 s1 → ls2 ≡ joinAt ls1 (64 + k) n
+      → typ ≡ field b constants k 1 → Did (typeStep b typ) n ls ls1 so o o1 s1 → ls2 ≡ joinAt ls1 (constantPlaces + k) n
       → WroteAt (script (DeclareConstant (constantOf b k) ∷ [])) (s1 .at) o1 o2 (r .at) → r .missing ≡ s1 .missing → Did (constantStep b k) n ls ls2 so o o2 r
   unfolding constantStep typeStep declareConstant constantOf place
   constant-is k short e d j w m = did-then short (rw e at d) (did-told _ _ j w m)
 
   pub function-is : (k : ℕ) {n start count typ : ℕ} {ls ls1 ls2 ls3 : List ℕ} {so s1 s2 r : Progress} {o o1 o2 o3 : List ℕ} → length o < MOST + 1
       → start ≡ field b functions k 2 → count ≡ field b functions k 3 → Did (typesStep b start count) n ls ls1 so o o1 s1
-      → typ ≡ field b functions k 1 → Did (typeStep b typ) n ls1 ls2 s1 o1 o2 s2 → ls3 ≡ joinAt ls2 (320 + k) n
+      → typ ≡ field b functions k 1 → Did (typeStep b typ) n ls1 ls2 s1 o1 o2 s2 → ls3 ≡ joinAt ls2 (functionPlaces + k) n
       → WroteAt (script (DeclareFunction (functionOf b k) ∷ [])) (s2 .at) o2 o3 (r .at) → r .missing ≡ s2 .missing → length o1 ≡ length o → Did (functionStep b k) n ls ls3 so o o3 r
   unfolding functionStep typesStep typeStep declareFunction functionOf place
   function-is k short es ec a e d j w m l = did-then short (rw (es, ec) at a) (did-then (omega arith) (rw e at d) (did-told _ _ j w m))

@@ -123,9 +123,9 @@ module _ (b : Book) where
   user-type e g z o = omega (arith, g .typ, e, z, o)
 
   -- ---- a term that declared a name
-  pub none-here : (name : Text) (ls : List ℕ) (k : ℕ) → getD ls (576 + k) 0 ≡ 0 → false ≡ declaresName b name ls k
+  pub none-here : (name : Text) (ls : List ℕ) (k : ℕ) → getD ls (literalPlaces + k) 0 ≡ 0 → false ≡ declaresName b name ls k
   unfolding declaresName
-  none-here name ls k z = rw (eq-eqb (getD ls (576 + k) 0) 0 z)
+  none-here name ls k z = rw (eq-eqb (getD ls (literalPlaces + k) 0) 0 z)
 
   literal-kind : (k : ℕ) → field b terms k 0 ≡ 2 → literalAt b k ≡ some (literalOf b k)
   unfolding literalAt literalBy kindOf
@@ -148,13 +148,13 @@ module _ (b : Book) where
   unfolding GoodKind kindOf
   good-literal P {k} h e z = let q : field b terms k 0 ≡ 2 = sym e ∙ z in rw q at (P .term k h .fields)
 
-  pub literal-here : (name : Text) (ls : List ℕ) (k : ℕ) {n : ℕ} {r : Bool} → (getD ls (576 + k) 0 ≡ 0 → ⊥) → n ≡ field b terms k 0 → n ≡ 2 → r ≡ same name (literalName (literalOf b k)) → r ≡ declaresName b name ls k
+  pub literal-here : (name : Text) (ls : List ℕ) (k : ℕ) {n : ℕ} {r : Bool} → (getD ls (literalPlaces + k) 0 ≡ 0 → ⊥) → n ≡ field b terms k 0 → n ≡ 2 → r ≡ same name (literalName (literalOf b k)) → r ≡ declaresName b name ls k
   unfolding declaresName hasName
-  literal-here name ls k h e z q = rw (ne-eqb (getD ls (576 + k) 0) 0 h, literal-kind k (sym e ∙ z)) q
+  literal-here name ls k h e z q = rw (ne-eqb (getD ls (literalPlaces + k) 0) 0 h, literal-kind k (sym e ∙ z)) q
 
-  pub other-here : (name : Text) (ls : List ℕ) (k : ℕ) {n : ℕ} → (getD ls (576 + k) 0 ≡ 0 → ⊥) → n ≡ field b terms k 0 → (n ≡ 2 → ⊥) → false ≡ declaresName b name ls k
+  pub other-here : (name : Text) (ls : List ℕ) (k : ℕ) {n : ℕ} → (getD ls (literalPlaces + k) 0 ≡ 0 → ⊥) → n ≡ field b terms k 0 → (n ≡ 2 → ⊥) → false ≡ declaresName b name ls k
   unfolding declaresName hasName literalAt
-  other-here name ls k h e z = rw (ne-eqb (getD ls (576 + k) 0) 0 h, other-kind (field b terms k 0) k (λ q. z (e ∙ q)))
+  other-here name ls k h e z = rw (ne-eqb (getD ls (literalPlaces + k) 0) 0 h, other-kind (field b terms k 0) k (λ q. z (e ∙ q)))
 
   -- ---- in all terms
   found : (name : Text) (ts : List (Option Literal)) (ls : List ℕ) (k : ℕ) → k < length ts → k < length ls → (not (eqb (getD ls k 0) 0) && hasName name (getD ts k none)) ≡ true → nameIn name ts ls ≡ true
@@ -174,21 +174,21 @@ module _ (b : Book) where
   nowhere name (t ∷ ts) [] h = refl
   nowhere name (t ∷ ts) (x ∷ ls) h = rw (h 0 (omega arith)) (nowhere name ts ls (λ k l. h (suc k) (omega arith)))
 
-  at-place : (name : Text) (ls : List ℕ) (k : ℕ) → k < size b terms → (not (eqb (getD (drop 576 ls) k 0) 0) && hasName name (getD (program b .literals) k none)) ≡ declaresName b name ls k
+  at-place : (name : Text) (ls : List ℕ) (k : ℕ) → k < size b terms → (not (eqb (getD (drop literalPlaces ls) k 0) 0) && hasName name (getD (program b .literals) k none)) ≡ declaresName b name ls k
   unfolding declaresName
-  at-place name ls k h = rw (getD-drop 576 ls k 0, literal-at b k h)
+  at-place name ls k h = rw (getD-drop literalPlaces ls k 0, literal-at b k h)
 
-  pub name-found : (name : Text) (ls : List ℕ) (k : ℕ) {r : Bool} → length ls ≡ levelCount → size b terms ≤ 1024 → k < size b terms → r ≡ declaresName b name ls k → r ≡ true → true ≡ nameIn name (program b .literals) (drop 576 ls)
+  pub name-found : (name : Text) (ls : List ℕ) (k : ℕ) {r : Bool} → length ls ≡ levelCount → size b terms ≤ terms .most → k < size b terms → r ≡ declaresName b name ls k → r ≡ true → true ≡ nameIn name (program b .literals) (drop literalPlaces ls)
   name-found name ls k l m h e t =
-      sym (found name (program b .literals) (drop 576 ls) k (omega (arith, literals-length b)) (omega (arith, length-drop 576 ls)) (at-place name ls k h ∙ sym e ∙ t))
+      sym (found name (program b .literals) (drop literalPlaces ls) k (omega (arith, literals-length b)) (omega (arith, length-drop literalPlaces ls)) (at-place name ls k h ∙ sym e ∙ t))
 
-  pub name-nowhere : (name : Text) (ls : List ℕ) {i : ℕ} → size b terms ≤ i → ((k : ℕ) → k < i → declaresName b name ls k ≡ false) → false ≡ nameIn name (program b .literals) (drop 576 ls)
+  pub name-nowhere : (name : Text) (ls : List ℕ) {i : ℕ} → size b terms ≤ i → ((k : ℕ) → k < i → declaresName b name ls k ≡ false) → false ≡ nameIn name (program b .literals) (drop literalPlaces ls)
   name-nowhere name ls {i} h e =
-      sym (nowhere name (program b .literals) (drop 576 ls) (λ k l. at-place name ls k (omega (arith, literals-length b)) ∙ e k (omega (arith, literals-length b))))
+      sym (nowhere name (program b .literals) (drop literalPlaces ls) (λ k l. at-place name ls k (omega (arith, literals-length b)) ∙ e k (omega (arith, literals-length b))))
 
   -- ---- the step
   pub literal-new : (t : ℕ) {n typ : ℕ} {ls ls1 ls2 : List ℕ} {so s1 r : Progress} {o o1 o2 : List ℕ} → length o < MOST + 1
-      → typ ≡ field b terms t 2 → Did (typeStep b typ) n ls ls1 so o o1 s1 → ls2 ≡ joinAt ls1 (576 + t) n
+      → typ ≡ field b terms t 2 → Did (typeStep b typ) n ls ls1 so o o1 s1 → ls2 ≡ joinAt ls1 (literalPlaces + t) n
       → WroteAt (script (DeclareLiteral (literalOf b t) ∷ [])) (s1 .at) o1 o2 (r .at) → r .missing ≡ s1 .missing → Did (newLiteralStep b t) n ls ls2 so o o2 r
   unfolding newLiteralStep typeStep declareLiteral literalOf literalPlace
   literal-new t short e d j w m = did-then short (rw e at d) (did-told _ _ j w m)
@@ -197,11 +197,11 @@ module _ (b : Book) where
   unfolding literalStep
   literal-tag t n ls so o e h = did-not _ _ n o (λ st sent. rw e) h
 
-  pub literal-old : (t n : ℕ) (ls : List ℕ) (so : Progress) (o : List ℕ) → isTag (literalOf b t) ≡ false → nameIn (literalName (literalOf b t)) (program b .literals) (drop 576 ls) ≡ true → so .at < MOST + 1 → Did (literalStep b t) n ls ls so o o so
+  pub literal-old : (t n : ℕ) (ls : List ℕ) (so : Progress) (o : List ℕ) → isTag (literalOf b t) ≡ false → nameIn (literalName (literalOf b t)) (program b .literals) (drop literalPlaces ls) ≡ true → so .at < MOST + 1 → Did (literalStep b t) n ls ls so o o so
   unfolding literalStep
   literal-old t n ls so o e f h = did-not _ _ n o (λ st sent. rw (e, f)) h
 
-  pub literal-sent : (t : ℕ) {n : ℕ} {ls ls1 : List ℕ} {so r : Progress} {o o1 : List ℕ} → isTag (literalOf b t) ≡ false → nameIn (literalName (literalOf b t)) (program b .literals) (drop 576 ls) ≡ false
+  pub literal-sent : (t : ℕ) {n : ℕ} {ls ls1 : List ℕ} {so r : Progress} {o o1 : List ℕ} → isTag (literalOf b t) ≡ false → nameIn (literalName (literalOf b t)) (program b .literals) (drop literalPlaces ls) ≡ false
       → Did (newLiteralStep b t) n ls ls1 so o o1 r → Did (literalStep b t) n ls ls1 so o o1 r
   unfolding literalStep
   literal-sent t e f d = did-unless _ _ (λ st sent. rw (e, f)) d

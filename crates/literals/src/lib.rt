@@ -7,7 +7,7 @@ ghost use Rattle.book.specs.Book.{terms, size};
 ghost use Rattle.book.specs.Decode.{literalOf, program};
 ghost use Rattle.book_test.specs.Promise.{Promise, GoodLiteral};
 ghost use Rattle.solver_expr.specs.Lowering.{isTag, literalName};
-ghost use Rattle.rsolver.specs.LevelState.{levelCount, nameIn};
+ghost use Rattle.rsolver.specs.LevelState.{literalPlaces, levelCount, nameIn};
 ghost use Rattle.levels.specs.Did.{Ready, Did};
 ghost use Rattle.literals.specs.Literals.{pairText, barred, declaresName, newLiteralStep, literalStep};
 use book::count;
@@ -112,7 +112,7 @@ fn declares_name(book: &[u8], k: usize, s: &[u8], typ: &[u8], levels: &[u8]) -> 
 // Finds a declared literal by its name's text.
 fn find_literal(book: &[u8], s: &[u8], typ: &[u8], levels: &[u8]) -> bool
     requires { ⌜ Promise (now book) × (length (now levels) ≡ levelCount) ⌝ }
-    ensures { λ r. ⌜ r ≡ nameIn (barred (now (s .entry)) (now (typ .entry))) (program (now (book .entry)) .literals) (drop 576 (now (levels .entry))) ⌝ }
+    ensures { λ r. ⌜ r ≡ nameIn (barred (now (s .entry)) (now (typ .entry))) (program (now (book .entry)) .literals) (drop literalPlaces (now (levels .entry))) ⌝ }
 {
     let all = count(book, TERMS);
     let mut k = 0;
@@ -128,7 +128,7 @@ fn find_literal(book: &[u8], s: &[u8], typ: &[u8], levels: &[u8]) -> bool
 // The name of the literal that term t is, is declared.
 fn is_named(book: &[u8], t: usize, levels: &[u8]) -> bool
     requires { ⌜ Promise (now book) × (t < size (now book) terms) × GoodLiteral (now book) t × (length (now levels) ≡ levelCount) ⌝ }
-    ensures { λ r. ⌜ r ≡ nameIn (literalName (literalOf (now (book .entry)) t)) (program (now (book .entry)) .literals) (drop 576 (now (levels .entry))) ⌝ }
+    ensures { λ r. ⌜ r ≡ nameIn (literalName (literalOf (now (book .entry)) t)) (program (now (book .entry)) .literals) (drop literalPlaces (now (levels .entry))) ⌝ }
 {
     let s = named(book, TERMS, t, LITERAL_NAME);
     let typ = field(book, TERMS, t, LITERAL_TYPE);

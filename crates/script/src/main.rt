@@ -21,7 +21,7 @@ use solvers::Session;
 const INPUT_ROOM: usize = INPUT_MOST + 1;
 
 // The least scratch that a call takes.
-const SCRATCH: usize = 1024;
+const SCRATCH: usize = basics::SCRATCH_LEAST;
 
 fn input_buffer() -> [u8; INPUT_ROOM] {
     [0; INPUT_ROOM]

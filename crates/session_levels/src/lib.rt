@@ -4,15 +4,24 @@ ghost use Prim.Native.Nat.{_+_};
 ghost use lib.Dec.{leb};
 ghost use Rattle.basics.specs.Text.{same, if_then_else_};
 ghost use Rattle.rsolver.specs.LevelState.{noLevels, forget};
+use book::format::*;
 
-// The places of the levels: the largest counts of types, constants, functions, axioms and terms together.
-pub const LEVELS: usize = 1600;
+// Where the records of each section begin, the types first: as many places as the section's largest count.
+pub const CONSTANT_PLACES: usize = TYPES_MOST;
+
+pub const FUNCTION_PLACES: usize = CONSTANT_PLACES + CONSTANTS_MOST;
+
+pub const AXIOM_PLACES: usize = FUNCTION_PLACES + FUNCTIONS_MOST;
+
+pub const LITERAL_PLACES: usize = AXIOM_PLACES + AXIOMS_MOST;
+
+pub const LEVEL_COUNT: usize = LITERAL_PLACES + TERMS_MOST;
 
 // Nothing is declared. Written in place, the zeros would stand one by one in every proof.
-pub fn blank() -> [u8; LEVELS]
+pub fn blank() -> [u8; LEVEL_COUNT]
     ensures { λ r. ⌜ r ≡ noLevels ⌝ }
 {
-    [0; LEVELS]
+    [0; LEVEL_COUNT]
 }
 
 // A level, or 0 if it is deeper than `depth`.

@@ -1,4 +1,4 @@
-use Rattle.excluded.specs.Excluded.{Ranged}
+use Rattle.excluded.specs.Excluded.{setSize, Ranged}
 use lib.ListN.{length}
 use Prim.Native.Nat.{_≤_, _-_}
 use native.Mathlib.Omega.{arith}
@@ -14,7 +14,7 @@ use Rattle.book.proofs.field.Reads as field-reads
 use Rattle.excluded.proofs.with.Reads as with-reads
 
 abbrev Inv-loop : tie.InvT-loop
-Inv-loop book start count set all₀ i₀ all i = (i ≤ count) × Ranged book start i set all × (length all ≡ 32)
+Inv-loop book start count set all₀ i₀ all i = (i ≤ count) × Ranged book start i set all × (length all ≡ setSize)
 
 abbrev μ-loop : tie.MeasureT-loop
 μ-loop book start count set all₀ i₀ all i = count - i

@@ -1,6 +1,6 @@
 use Rattle.records.proofs.Readers.{named-term, named-type, reads-term}
 use Rattle.book.specs.Decode.{program}
-use Rattle.rsolver.specs.LevelState.{nameIn}
+use Rattle.rsolver.specs.LevelState.{literalPlaces, nameIn}
 use lib.ListN.{drop}
 use Rattle.basics.specs.Text.{Text}
 use mathlib.Core.Path.{ap, _∙_}
@@ -53,15 +53,15 @@ find-literal-requires-3 c κs = (c .before .before .before .before .before .befo
 
 -- src/lib.rt:124:1
 returns : tie.Need-returns
-returns c = c .find-literal .ensures ∙ ap (λ (x : Text). nameIn x (program (c .before .before .before .before .before .before .before .args .book .now) .literals) (drop 576 (c .before .before .before .before .before .before .before .args .levels .now))) (name-bool _ _ (c .before .before .before .before .named .ensures) (c .before .before .before .field .ensures .is) (c .before .before .match .keys1))
+returns c = c .find-literal .ensures ∙ ap (λ (x : Text). nameIn x (program (c .before .before .before .before .before .before .before .args .book .now) .literals) (drop literalPlaces (c .before .before .before .before .before .before .before .args .levels .now))) (name-bool _ _ (c .before .before .before .before .named .ensures) (c .before .before .before .field .ensures .is) (c .before .before .match .keys1))
 
 -- src/lib.rt:124:1
 returns-2 : tie.Need-returns-2
-returns-2 c = c .find-literal2 .ensures ∙ ap (λ (x : Text). nameIn x (program (c .before .before .before .before .before .before .before .args .book .now) .literals) (drop 576 (c .before .before .before .before .before .before .before .args .levels .now))) (name-int _ _ (c .before .before .before .before .named .ensures) (c .before .before .before .field .ensures .is) (c .before .before .match .keys2))
+returns-2 c = c .find-literal2 .ensures ∙ ap (λ (x : Text). nameIn x (program (c .before .before .before .before .before .before .before .args .book .now) .literals) (drop literalPlaces (c .before .before .before .before .before .before .before .args .levels .now))) (name-int _ _ (c .before .before .before .before .named .ensures) (c .before .before .before .field .ensures .is) (c .before .before .match .keys2))
 
 -- src/lib.rt:124:1
 returns-3 : tie.Need-returns-3
-returns-3 c = c .find-literal3 .ensures ∙ ap (λ (x : Text). nameIn x (program (c .before .before .before .before .before .before .before .args .book .now) .literals) (drop 576 (c .before .before .before .before .before .before .before .args .levels .now))) (name-user _ _ (c .before .before .before .before .named .ensures) (c .before .before .before .field .ensures .is) (c .before .before .match .rest .0 .1) (c .before .before .match .rest .1) (c .before .named2 .ensures))
+returns-3 c = c .find-literal3 .ensures ∙ ap (λ (x : Text). nameIn x (program (c .before .before .before .before .before .before .before .args .book .now) .literals) (drop literalPlaces (c .before .before .before .before .before .before .before .args .levels .now))) (name-user _ _ (c .before .before .before .before .named .ensures) (c .before .before .before .field .ensures .is) (c .before .before .match .rest .0 .1) (c .before .before .match .rest .1) (c .before .named2 .ensures))
 
 pub is-named-spec : {M : Type 1} → statement M
 is-named-spec =

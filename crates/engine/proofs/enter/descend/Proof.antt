@@ -1,3 +1,4 @@
+use Rattle.book.specs.Book.{depthMost}
 use Rattle.engine.proofs.Entering.{same-wide}
 use Rattle.basics.proofs.Places.{at-length}
 use mathlib.Core.Path.{_≡_}
@@ -19,22 +20,22 @@ loop-holds : tie.Need-loop-holds Inv-loop μ-loop
 loop-holds c = descending-start _ _ _ _ (omega arith) (c .before .before .before .before .before .pre .state)
 
 sub-level : tie.Need-sub-level Inv-loop μ-loop
-sub-level c = let n : length (c .before .before .before .path-of .result .nodes) ≡ 64 = search needs in let d = depth-is _ _ _ _ (c .before .before .before .path-of .ensures .is) n (c .before .before .before .path-of .ensures .few) in omega (arith, d, c .before .before .before .before .before .before .before .pre .few, c .before .loop .inv .few)
+sub-level c = let n : length (c .before .before .before .path-of .result .nodes) ≡ depthMost = search needs in let d = depth-is _ _ _ _ (c .before .before .before .path-of .ensures .is) n (c .before .before .before .path-of .ensures .few) in omega (arith, d, c .before .before .before .before .before .before .before .pre .few, c .before .loop .inv .few)
 
 cast-level : tie.Need-cast-level Inv-loop μ-loop
 cast-level c = omega (arith, c .before .before .before .path-of .ensures .few)
 
 mul-enter : tie.Need-mul-enter Inv-loop μ-loop
-mul-enter c = let n : length (c .before .before .before .path-of .result .nodes) ≡ 64 = search needs in let d = depth-is _ _ _ _ (c .before .before .before .path-of .ensures .is) n (c .before .before .before .path-of .ensures .few) in omega (arith, d, c .before .before .before .before .before .before .before .pre .few, c .before .loop .inv .few, c .before .before .before .path-of .ensures .few)
+mul-enter c = let n : length (c .before .before .before .path-of .result .nodes) ≡ depthMost = search needs in let d = depth-is _ _ _ _ (c .before .before .before .path-of .ensures .is) n (c .before .before .before .path-of .ensures .few) in omega (arith, d, c .before .before .before .before .before .before .before .pre .few, c .before .loop .inv .few, c .before .before .before .path-of .ensures .few)
 
 array-read-enter : tie.Need-array-read-enter Inv-loop μ-loop
-array-read-enter c = let n : length (c .before .before .before .path-of .result .nodes) ≡ 64 = search needs in let d = depth-is _ _ _ _ (c .before .before .before .path-of .ensures .is) n (c .before .before .before .path-of .ensures .few) in omega (arith, d, c .before .before .before .before .before .before .before .pre .few, c .before .loop .inv .few, c .before .before .before .path-of .ensures .few)
+array-read-enter c = let n : length (c .before .before .before .path-of .result .nodes) ≡ depthMost = search needs in let d = depth-is _ _ _ _ (c .before .before .before .path-of .ensures .is) n (c .before .before .before .path-of .ensures .few) in omega (arith, d, c .before .before .before .before .before .before .before .pre .few, c .before .loop .inv .few, c .before .before .before .path-of .ensures .few)
 
 enter-requires : tie.Need-enter-requires Inv-loop μ-loop
-enter-requires c κs = let n : length (c .before .before .before .before .before .path-of .result .nodes) ≡ 64 = search needs in let d = depth-is _ _ _ _ (c .before .before .before .before .before .path-of .ensures .is) n (c .before .before .before .before .before .path-of .ensures .few) in next-above _ (c .before .before .before .before .before .before .before .before .before .pre .promise) _ (c .before .before .before .before .before .before .before .before .before .pre .inside) _ (c .before .before .before .before .before .path-of .result .nodes) (c .before .before .before .before .before .path-of .result .depth) (c .before .before .before .before .before .path-of .ensures .is) (c .before .before .before .before .before .before .before .before .before .pre .few) (c .before .before .loop-test .taken) (omega (arith, d, c .before .before .before .before .before .before .before .before .before .pre .few, c .before .before .before .loop .inv .few)) (c .before .before .before .loop .inv) (omega (arith, d, c .before .before .before .before .before .path-of .ensures .few))
+enter-requires c κs = let n : length (c .before .before .before .before .before .path-of .result .nodes) ≡ depthMost = search needs in let d = depth-is _ _ _ _ (c .before .before .before .before .before .path-of .ensures .is) n (c .before .before .before .before .before .path-of .ensures .few) in next-above _ (c .before .before .before .before .before .before .before .before .before .pre .promise) _ (c .before .before .before .before .before .before .before .before .before .pre .inside) _ (c .before .before .before .before .before .path-of .result .nodes) (c .before .before .before .before .before .path-of .result .depth) (c .before .before .before .before .before .path-of .ensures .is) (c .before .before .before .before .before .before .before .before .before .pre .few) (c .before .before .loop-test .taken) (omega (arith, d, c .before .before .before .before .before .before .before .before .before .pre .few, c .before .before .before .loop .inv .few)) (c .before .before .before .loop .inv) (omega (arith, d, c .before .before .before .before .before .path-of .ensures .few))
 
 loop-again : tie.Need-loop-again Inv-loop μ-loop
-loop-again c = let n : length (c .before .before .before .before .before .before .before .before .before .before .path-of .result .nodes) ≡ 64 = search needs in let d = depth-is _ _ _ _ (c .before .before .before .before .before .before .before .before .before .before .path-of .ensures .is) n (c .before .before .before .before .before .before .before .before .before .before .path-of .ensures .few) in descending-more _ (c .before .before .before .before .before .before .before .before .before .before .before .before .before .before .pre .promise) _ (c .before .before .before .before .before .before .before .before .before .before .before .before .before .before .pre .inside) _ (c .before .before .before .before .before .before .before .before .before .before .path-of .result .nodes) (c .before .before .before .before .before .before .before .before .before .before .path-of .result .depth) (c .before .before .before .before .before .before .before .before .before .before .path-of .ensures .is) (c .before .before .before .before .before .before .before .before .before .before .before .before .before .before .pre .few) (c .before .before .before .before .before .before .before .loop-test .taken) (omega (arith, d, c .before .before .before .before .before .before .before .before .before .before .before .before .before .before .pre .few, c .before .before .before .before .before .before .before .before .loop .inv .few)) (c .before .before .before .before .before .before .before .before .loop .inv) (omega arith) (c .before .before .before .before .enter .ensures)
+loop-again c = let n : length (c .before .before .before .before .before .before .before .before .before .before .path-of .result .nodes) ≡ depthMost = search needs in let d = depth-is _ _ _ _ (c .before .before .before .before .before .before .before .before .before .before .path-of .ensures .is) n (c .before .before .before .before .before .before .before .before .before .before .path-of .ensures .few) in descending-more _ (c .before .before .before .before .before .before .before .before .before .before .before .before .before .before .pre .promise) _ (c .before .before .before .before .before .before .before .before .before .before .before .before .before .before .pre .inside) _ (c .before .before .before .before .before .before .before .before .before .before .path-of .result .nodes) (c .before .before .before .before .before .before .before .before .before .before .path-of .result .depth) (c .before .before .before .before .before .before .before .before .before .before .path-of .ensures .is) (c .before .before .before .before .before .before .before .before .before .before .before .before .before .before .pre .few) (c .before .before .before .before .before .before .before .loop-test .taken) (omega (arith, d, c .before .before .before .before .before .before .before .before .before .before .before .before .before .before .pre .few, c .before .before .before .before .before .before .before .before .loop .inv .few)) (c .before .before .before .before .before .before .before .before .loop .inv) (omega arith) (c .before .before .before .before .enter .ensures)
 
 same-length : tie.Need-same-length Inv-loop μ-loop
 same-length c = same-wide (c .before .before .before .before .before .before .before .pre .promise) _ _ (c .before .before .before .before .before .before .before .pre .state .levels) (c .before .loop .inv .state .levels)

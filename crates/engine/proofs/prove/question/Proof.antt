@@ -1,6 +1,7 @@
 use native.Mathlib.Omega.{arith}
 use mathlib.Core.Path.{_≡_}
 use lib.ListN.{length}
+use Rattle.rsolver.specs.LevelState.{levelCount}
 use Rattle.engine.proofs.Entering.{few-deep}
 use Rattle.engine.proofs.Asking.{questioned, copied}
 use borrow.Author.Needs.{needs}
@@ -14,7 +15,7 @@ cast-ask-goal : tie.Need-cast-ask-goal
 cast-ask-goal c = omega (arith, c .before .before .before .before .before .depth-of .ensures, few-deep (c .before .before .before .before .before .before .before .before .before .before .before .before .before .before .before .before .pre .promise) _ (c .before .before .before .before .before .before .before .before .before .before .before .before .before .before .before .before .pre .to))
 
 ask-goal-requires : tie.Need-ask-goal-requires
-ask-goal-requires c κs = let wide : length (c .before .before .before .before .before .before .blank .result) ≡ 1600 = search needs in record { promise = c .before .before .before .before .before .before .before .before .before .before .before .before .before .before .before .before .before .before .pre .promise; inside = c .before .before .before .before .before .before .before .before .before .before .before .before .before .before .before .before .before .before .pre .to; goal = c .before .before .before .before .before .before .before .before .before .before .before .before .before .before .before .before .before .before .pre .goal; level = omega (arith, c .before .before .before .before .before .before .before .depth-of .ensures, few-deep (c .before .before .before .before .before .before .before .before .before .before .before .before .before .before .before .before .before .before .pre .promise) _ (c .before .before .before .before .before .before .before .before .before .before .before .before .before .before .before .before .before .before .pre .to)); state = record { levels = copied (c .before .before .before .before .before .before .before .before .before .before .before .before .before .before .before .before .before .before .pre .promise) _ (c .before .before .before .before .before .before .before .before .before .before .before .before .set-context .ensures .state .levels) wide (c .before .before .before .put-all .ensures); missing = c .before .before .before .before .before .before .before .before .before .before .before .before .set-context .ensures .state .missing } }
+ask-goal-requires c κs = let wide : length (c .before .before .before .before .before .before .blank .result) ≡ levelCount = search needs in record { promise = c .before .before .before .before .before .before .before .before .before .before .before .before .before .before .before .before .before .before .pre .promise; inside = c .before .before .before .before .before .before .before .before .before .before .before .before .before .before .before .before .before .before .pre .to; goal = c .before .before .before .before .before .before .before .before .before .before .before .before .before .before .before .before .before .before .pre .goal; level = omega (arith, c .before .before .before .before .before .before .before .depth-of .ensures, few-deep (c .before .before .before .before .before .before .before .before .before .before .before .before .before .before .before .before .before .before .pre .promise) _ (c .before .before .before .before .before .before .before .before .before .before .before .before .before .before .before .before .before .before .pre .to)); state = record { levels = copied (c .before .before .before .before .before .before .before .before .before .before .before .before .before .before .before .before .before .before .pre .promise) _ (c .before .before .before .before .before .before .before .before .before .before .before .before .set-context .ensures .state .levels) wide (c .before .before .before .put-all .ensures); missing = c .before .before .before .before .before .before .before .before .before .before .before .before .set-context .ensures .state .missing } }
 
 returns : tie.Need-returns
 returns c = questioned _ _ _ (c .before .before .before .before .before .before .before .before .before .before .before .before .before .before .before .before .before .before .before .before .before .before .good .1 .1 .1 .1 .1 .0 .0) (c .before .before .before .before .before .before .before .before .before .before .before .before .before .before .before .before .set-context .ensures) (c .before .before .before .ask-goal .ensures)
