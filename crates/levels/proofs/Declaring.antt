@@ -8,7 +8,7 @@ use lib.Dec.{eqb}
 use lib.ListN.{length, getD}
 use borrow.Author.Tests.{eq-eqb, ne-eqb}
 use Rattle.basics.specs.Write.{MOST, WroteAt}
-use Rattle.book.specs.Book.{Book, types, constants, functions, lists, size, field, entries}
+use Rattle.book.specs.Book.{Book, types, constants, functions, lists, size, field, entries, userTypes}
 use Rattle.book.specs.SType.{SUserType}
 use Rattle.book.specs.Decode.{typeOf, constantOf, functionOf, program}
 use Rattle.smt_engines.specs.Command.{Command, DeclareSort, DeclareConstant, DeclareFunction, script}
@@ -38,11 +38,11 @@ module _ (b : Book) where
   type-none (suc zero) l h = did-skip _ _ _ _ h
   type-none (suc (suc k)) l h = absurd (omega arith)
 
-  pub type-some : (typ : ℕ) {n : ℕ} {ls ls1 : List ℕ} {so r : Progress} {o o1 : List ℕ} → 1 < typ → Did (userTypeStep b (typ - 2)) n ls ls1 so o o1 r → Did (typeStep b typ) n ls ls1 so o o1 r
+  pub type-some : (typ : ℕ) {n : ℕ} {ls ls1 : List ℕ} {so r : Progress} {o o1 : List ℕ} → 1 < typ → Did (userTypeStep b (typ - userTypes)) n ls ls1 so o o1 r → Did (typeStep b typ) n ls ls1 so o o1 r
   unfolding typeStep userTypeStep typeOf
   type-some zero l d = absurd (omega arith)
   type-some (suc zero) l d = absurd (omega arith)
-  type-some (suc (suc k)) l d = let e : suc (suc k) - 2 ≡ k = omega arith in rw e at d
+  type-some (suc (suc k)) l d = let e : suc (suc k) - userTypes ≡ k = omega arith in rw e at d
 
   pub types-none : (start n : ℕ) (ls : List ℕ) (so : Progress) (o : List ℕ) → so .at < MOST + 1 → Did (typesStep b start 0) n ls ls so o o so
   unfolding typesStep

@@ -1,6 +1,6 @@
 // DeclareNewTypes, and DeclareSymbol of constants and functions with their types.
 ghost use Prim.Native.Nat.{_+_, _<_};
-ghost use Rattle.book.specs.Book.{types, constants, functions, size};
+ghost use Rattle.book.specs.Book.{types, constants, functions, size, userTypes};
 ghost use Rattle.book_test.specs.Promise.{Range};
 ghost use Rattle.levels.specs.Did.{Ready, Did};
 ghost use Rattle.levels.specs.Types.{userTypeStep, typeStep, typesStep, constantTypesStep, constantStep, functionStep};
@@ -9,11 +9,13 @@ use super::FUNCTION_PLACES;
 use super::Progress;
 use super::marks::mark;
 use book::field;
+use book::format::BOOL;
 use book::format::CONSTANT_TYPE;
 use book::format::CONSTANTS;
 use book::format::FUNCTION_INPUTS;
 use book::format::FUNCTION_TYPE;
 use book::format::FUNCTIONS;
+use book::format::INT;
 use book::format::LISTED;
 use book::format::LISTS;
 use book::format::USER_TYPES;
@@ -53,11 +55,11 @@ pub fn declare_new_types(
     so: Progress,
     out: &mut [u8],
 ) -> Progress
-    requires { ⌜ Ready (now book) level (now levels) × (typ < 2 + size (now book) types) ⌝ }
+    requires { ⌜ Ready (now book) level (now levels) × (typ < userTypes + size (now book) types) ⌝ }
     ensures { λ r. ⌜ Did (typeStep (now (book .entry)) typ) level (now (levels .entry)) (now (levels .exit)) so (now (out .entry)) (now (out .exit)) r ⌝ }
 {
     match typ {
-        0..=1 => so,
+        BOOL..=INT => so,
         _ => declare_type(book, typ - USER_TYPES, level, levels, so, out),
     }
 }
@@ -72,7 +74,7 @@ fn declare_types(
     so: Progress,
     out: &mut [u8],
 ) -> Progress
-    requires { ⌜ Ready (now book) level (now levels) × Range (now book) (2 + size (now book) types) start count ⌝ }
+    requires { ⌜ Ready (now book) level (now levels) × Range (now book) (userTypes + size (now book) types) start count ⌝ }
     ensures { λ r. ⌜ Did (typesStep (now (book .entry)) start count) level (now (levels .entry)) (now (levels .exit)) so (now (out .entry)) (now (out .exit)) r ⌝ }
 {
     let mut done = so;

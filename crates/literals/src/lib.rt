@@ -12,7 +12,9 @@ ghost use Rattle.levels.specs.Did.{Ready, Did};
 ghost use Rattle.literals.specs.Literals.{pairText, barred, declaresName, newLiteralStep, literalStep};
 use book::count;
 use book::field;
+use book::format::BOOL;
 use book::format::CUSTOM_LITERAL;
+use book::format::INT;
 use book::format::KIND;
 use book::format::LITERAL_NAME;
 use book::format::LITERAL_TYPE;
@@ -83,9 +85,9 @@ fn has_name(book: &[u8], k: usize, s: &[u8], typ: &[u8]) -> bool
     let other = named(book, TERMS, k, LITERAL_NAME);
     let other_type = field(book, TERMS, k, LITERAL_TYPE);
     match other_type {
-        0 => same_pair(s, typ, other, b"bool"),
-        1 => same_pair(s, typ, other, b"int"),
-        _ => same_pair(
+        BOOL => same_pair(s, typ, other, b"bool"),
+        INT => same_pair(s, typ, other, b"int"),
+        USER_TYPES.. => same_pair(
             s,
             typ,
             other,
@@ -133,9 +135,9 @@ fn is_named(book: &[u8], t: usize, levels: &[u8]) -> bool
     let s = named(book, TERMS, t, LITERAL_NAME);
     let typ = field(book, TERMS, t, LITERAL_TYPE);
     match typ {
-        0 => find_literal(book, s, b"bool", levels),
-        1 => find_literal(book, s, b"int", levels),
-        _ => find_literal(
+        BOOL => find_literal(book, s, b"bool", levels),
+        INT => find_literal(book, s, b"int", levels),
+        USER_TYPES.. => find_literal(
             book,
             s,
             named(book, TYPES, typ - USER_TYPES, TYPE_NAME),
