@@ -5,14 +5,7 @@ ghost use Rattle.book.specs.Book.{letters, names, types, constants, functions, 
 ghost use Rattle.book.specs.Laid.{AllLaid};
 ghost use Rattle.book_fields.specs.Fields.{letterInRange, nameInRange, typeInRange, constantInRange, functionInRange, axiomInRange, patternInRange, contextInRange, fieldsInRange};
 use book::count;
-use book::format::AXIOMS;
-use book::format::CONSTANTS;
-use book::format::CONTEXTS;
-use book::format::FUNCTIONS;
-use book::format::LETTERS;
-use book::format::NAMES;
-use book::format::PATTERNS;
-use book::format::TYPES;
+use book::format::*;
 use book_fields::axiom_in_range;
 use book_fields::constant_in_range;
 use book_fields::context_in_range;

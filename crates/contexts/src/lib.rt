@@ -3,9 +3,7 @@ ghost use mathlib.Core.Path.{_≡_};
 ghost use Prim.Native.Nat.{_≤_};
 ghost use Rattle.contexts.specs.Path.{IsNode, IsBelow, IsParent, IsPath, IsMove, popsOf};
 ghost use Rattle.book.specs.Decode.{program};
-use book::format::CONTEXT_PARENT;
-use book::format::CONTEXTS;
-use book::format::DEPTH_MOST;
+use book::format::*;
 
 // A node's path: the node itself, its parent and so on, the root left out.
 pub struct Path {

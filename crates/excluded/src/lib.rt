@@ -8,9 +8,7 @@ ghost use Rattle.book.specs.Book.{constants, size};
 ghost use Rattle.book_test.specs.Promise.{Promise, Range};
 ghost use Rattle.excluded.specs.Excluded.{setSize, power, hasBit, isExcluded, Excludes, Joined, Ranged};
 use book::field;
-use book::format::CONSTANTS_MOST;
-use book::format::LISTED;
-use book::format::LISTS;
+use book::format::*;
 
 // The set's bytes, of eight bits each.
 pub const SIZE: usize = CONSTANTS_MOST / 8;

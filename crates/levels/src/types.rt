@@ -9,16 +9,7 @@ use super::FUNCTION_PLACES;
 use super::Progress;
 use super::marks::mark;
 use book::field;
-use book::format::BOOL;
-use book::format::CONSTANT_TYPE;
-use book::format::CONSTANTS;
-use book::format::FUNCTION_INPUTS;
-use book::format::FUNCTION_TYPE;
-use book::format::FUNCTIONS;
-use book::format::INT;
-use book::format::LISTED;
-use book::format::LISTS;
-use book::format::USER_TYPES;
+use book::format::*;
 
 // User type k.
 fn declare_type(

@@ -12,16 +12,7 @@ use super::parts::put_type;
 use super::parts::put_types;
 use basics::put_at;
 use book::field;
-use book::format::CONSTANT_NAME;
-use book::format::CONSTANT_TYPE;
-use book::format::CONSTANTS;
-use book::format::FUNCTION_NAME;
-use book::format::FUNCTION_TYPE;
-use book::format::FUNCTIONS;
-use book::format::LITERAL_TYPE;
-use book::format::TERMS;
-use book::format::TYPE_NAME;
-use book::format::TYPES;
+use book::format::*;
 use records::named;
 
 pub fn push(at: usize, out: &mut [u8]) -> usize
