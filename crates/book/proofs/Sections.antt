@@ -3,17 +3,17 @@ use Prim.Native.Nat.{ℕ, zero, suc, _+_, _*_, _<_, _≤_}
 use native.Mathlib.Nat.{mul-le-mul-left, mul-suc}
 use native.Mathlib.Omega.{arith}
 use mathlib.Core.Path.{_≡_, refl, sym, ap, _∙_}
-use mathlib.Core.List.{List, [], _∷_}
+use mathlib.Core.List.{List, map}
 use lib.ListN.{length, getD}
-use Rattle.book.specs.Book.{Book, Section, word, offset, size, field}
+use Rattle.book.specs.Book.{Book, Section, sections, word, offset, size, field}
 use Rattle.book.specs.Laid.{sectionAt, Holds, Reads}
 
--- the size of each section's records, and its limit, as the code has them
+-- the size of each section's records, and its limit: what the code's tables compute to
 abbrev pub sizes : List ℕ
-sizes = 1 ∷ 8 ∷ 4 ∷ 8 ∷ 24 ∷ 12 ∷ 8 ∷ 28 ∷ 12 ∷ 4 ∷ []
+sizes = map (λ (s : Section). s .size) sections
 
 abbrev pub limits : List ℕ
-limits = 8192 ∷ 512 ∷ 64 ∷ 256 ∷ 128 ∷ 128 ∷ 128 ∷ 1024 ∷ 512 ∷ 2048 ∷ []
+limits = map (λ (s : Section). s .most) sections
 
 pub record Tabled (n : ℕ) : Type 0 where
   pub number : sectionAt n .number ≡ n

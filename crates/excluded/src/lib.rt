@@ -10,7 +10,7 @@ ghost use Rattle.excluded.specs.Excluded.{setSize, power, hasBit, isExcl
 use book::field;
 use book::format::*;
 
-// A byte has eight bits.
+// The set's bytes, of eight bits each.
 pub const SIZE: usize = CONSTANTS_MOST / 8;
 
 // What each bit of a byte counts.

@@ -4,6 +4,7 @@ use mathlib.Core.List.{List, [], _∷_, _++_}
 use lib.ListN.{length, replicate, set}
 use Rattle.basics.specs.Text.{Text}
 use Rattle.basics.specs.Outcome.{refused, accepted}
+use Rattle.basics.specs.Buffer.{scratchLeast}
 use Rattle.book_test.specs.BookTest.{BookTested}
 use Rattle.solver_expr.specs.Print.{Printed}
 use Rattle.rsolver.specs.LevelState.{levelCount}
@@ -13,10 +14,10 @@ use Rattle.solvers.specs.Left.{Left, written, proved, unproved}
 
 -- the least scratch, not zero before the call and zero after it
 unfoldable pub dirty : List ℕ
-dirty = replicate 1024 0x55
+dirty = replicate scratchLeast 0x55
 
 unfoldable pub clean : List ℕ
-clean = replicate 1024 0
+clean = replicate scratchLeast 0
 
 -- a buffer, full of a byte that no text here has
 unfoldable pub blank : ℕ → List ℕ

@@ -8,23 +8,18 @@ use Rattle.book.proofs.count.Reads as count-reads
 use Rattle.book.proofs.field.Reads as field-reads
 use Rattle.book_fields.proofs.is_range.Reads as is-range-reads
 
--- src/lib.rt:139:9
 field-requires : tie.Need-field-requires
 field-requires c κs = search needs
 
--- src/lib.rt:140:34
 count-requires : tie.Need-count-requires
 count-requires c κs = search needs
 
--- src/lib.rt:141:53
 count-requires-2 : tie.Need-count-requires-2
 count-requires-2 c κs = search needs
 
--- src/lib.rt:141:11
 is-range-requires : tie.Need-is-range-requires
 is-range-requires c κs = search needs
 
--- src/lib.rt:135:1
 returns : tie.Need-returns
 unfolding axiomInRange within typeLimit
 returns c = cc

@@ -8,23 +8,18 @@ use Rattle.book.proofs.count.Reads as count-reads
 use Rattle.book.proofs.field.Reads as field-reads
 use Rattle.book_fields.proofs.is_type.Reads as is-type-reads
 
--- src/lib.rt:120:6
 field-requires : tie.Need-field-requires
 field-requires c κs = search needs
 
--- src/lib.rt:120:49
 count-requires : tie.Need-count-requires
 count-requires c κs = search needs
 
--- src/lib.rt:121:25
 field-requires-2 : tie.Need-field-requires-2
 field-requires-2 c κs = search needs
 
--- src/lib.rt:121:11
 is-type-requires : tie.Need-is-type-requires
 is-type-requires c κs = search needs
 
--- src/lib.rt:116:1
 returns : tie.Need-returns
 unfolding constantInRange within
 returns c = cc

@@ -7,27 +7,21 @@ use Rattle.book_fields.proofs.context_in_range.Lts as lts
 use Rattle.book.proofs.count.Reads as count-reads
 use Rattle.book.proofs.field.Reads as field-reads
 
--- src/lib.rt:155:6
 field-requires : tie.Need-field-requires
 field-requires c κs = search needs
 
--- src/lib.rt:156:12
 field-requires-2 : tie.Need-field-requires-2
 field-requires-2 c κs = search needs
 
--- src/lib.rt:156:53
 count-requires : tie.Need-count-requires
 count-requires c κs = search needs
 
--- src/lib.rt:157:12
 field-requires-3 : tie.Need-field-requires-3
 field-requires-3 c κs = search needs
 
--- src/lib.rt:157:55
 count-requires-2 : tie.Need-count-requires-2
 count-requires-2 c κs = search needs
 
--- src/lib.rt:151:1
 returns : tie.Need-returns
 unfolding contextInRange within
 returns c = cc

@@ -18,31 +18,24 @@ Inv-loop book limit start n j₀ j = (j ≤ n) × (allBelow j (entryBelow book l
 abbrev μ-loop : tie.MeasureT-loop
 μ-loop book limit start n j₀ j = n - j
 
--- src/lib.rt:71:5
 loop-holds : tie.Need-loop-holds Inv-loop μ-loop
 loop-holds c = (search needs, all-none _)
 
--- src/lib.rt:72:13
 entry-below-requires : tie.Need-entry-below-requires Inv-loop μ-loop
 entry-below-requires c κs = search needs
 
--- src/lib.rt:73:13
 returns : tie.Need-returns Inv-loop μ-loop
 returns c = all-stop _ _ _ (c .before .entry-below .ensures) (c .if1 .taken) (omega arith)
 
--- src/lib.rt:75:9
 add-j : tie.Need-add-j Inv-loop μ-loop
 add-j c = search needs
 
--- src/lib.rt:71:5
 loop-less : tie.Need-loop-less Inv-loop μ-loop
 loop-less c = search needs
 
--- src/lib.rt:71:5
 loop-again : tie.Need-loop-again Inv-loop μ-loop
 loop-again c = (search needs, all-more _ _ (c .before .before .before .loop .inv .1) (c .before .entry-below .ensures) (c .if1 .left))
 
--- src/lib.rt:66:1
 returns-2 : tie.Need-returns-2 Inv-loop μ-loop
 returns-2 c = all-done _ _ _ (c .before .loop .inv .1) (omega arith)
 

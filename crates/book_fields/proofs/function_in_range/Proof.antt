@@ -9,43 +9,33 @@ use Rattle.book.proofs.field.Reads as field-reads
 use Rattle.book_fields.proofs.is_range.Reads as is-range-reads
 use Rattle.book_fields.proofs.is_type.Reads as is-type-reads
 
--- src/lib.rt:128:30
 count-requires : tie.Need-count-requires
 count-requires c κs = search needs
 
--- src/lib.rt:128:17
 add-types : tie.Need-add-types
 add-types c = search needs
 
--- src/lib.rt:129:6
 field-requires : tie.Need-field-requires
 field-requires c κs = search needs
 
--- src/lib.rt:129:49
 count-requires-2 : tie.Need-count-requires-2
 count-requires-2 c κs = search needs
 
--- src/lib.rt:130:25
 field-requires-2 : tie.Need-field-requires-2
 field-requires-2 c κs = search needs
 
--- src/lib.rt:130:11
 is-type-requires : tie.Need-is-type-requires
 is-type-requires c κs = search needs
 
--- src/lib.rt:131:11
 is-range-requires : tie.Need-is-range-requires
 is-range-requires c κs = search needs
 
--- src/lib.rt:132:63
 count-requires-3 : tie.Need-count-requires-3
 count-requires-3 c κs = search needs
 
--- src/lib.rt:132:11
 is-range-requires-2 : tie.Need-is-range-requires-2
 is-range-requires-2 c κs = search needs
 
--- src/lib.rt:124:1
 returns : tie.Need-returns
 unfolding functionInRange within typeLimit
 returns c = cc

@@ -11,36 +11,28 @@ use Rattle.book.proofs.count.Reads as count-reads
 use Rattle.book.proofs.field.Reads as field-reads
 use Rattle.book_fields.proofs.entries_below.Reads as entries-below-reads
 
--- src/lib.rt:85:9
 field-requires : tie.Need-field-requires
 field-requires c κs = search needs
 
--- src/lib.rt:86:37
 add-field : tie.Need-add-field
 add-field c = omega (arith, tabled (c .before .before .args .section) (c .before .before .pre .1) .size, tabled (c .before .before .args .section) (c .before .before .pre .1) .narrow, c .before .before .pre .2 .within)
 
--- src/lib.rt:86:9
 field-requires-2 : tie.Need-field-requires-2
 field-requires-2 c κs = search needs
 
--- src/lib.rt:87:8
 add-if1 : tie.Need-add-if1
 add-if1 c = search needs
 
--- src/lib.rt:87:21
 count-requires : tie.Need-count-requires
 count-requires c κs = search needs
 
--- src/lib.rt:88:9
 entries-below-requires : tie.Need-entries-below-requires
 entries-below-requires c κs = search needs
 
--- src/lib.rt:81:1
 returns : tie.Need-returns
 unfolding isRange
 returns c = rw (← c .before .before .before .before .field .ensures .is, ← c .before .before .before .field2 .ensures .is, ← c .before .before .count .ensures .is, le-leb _ _ (c .before .if1 .taken)) (c .entries-below .ensures)
 
--- src/lib.rt:81:1
 returns-2 : tie.Need-returns-2
 unfolding isRange
 returns-2 c = rw (← c .before .before .before .field .ensures .is, ← c .before .before .field2 .ensures .is, ← c .before .count .ensures .is, lt-leb _ _ (c .if1 .left))

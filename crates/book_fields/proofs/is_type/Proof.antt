@@ -9,16 +9,13 @@ use Rattle.book_fields.proofs.is_type.Reads as reads
 use Rattle.book_fields.proofs.is_type.Lts as lts
 use Rattle.book.proofs.count.Reads as count-reads
 
--- src/lib.rt:55:31
 count-requires : tie.Need-count-requires
 count-requires c κs = search needs
 
--- src/lib.rt:49:1
 returns : tie.Need-returns
 unfolding typeLimit
 returns c = basic-type (c .before .before .args .t) (size (c .before .before .args .book .now) types) (omega arith)
 
--- src/lib.rt:49:1
 returns-2 : tie.Need-returns-2
 unfolding typeLimit
 returns-2 c = rw (c .count .ensures .is) (user-type (c .before .before .before .args .t) (size (c .before .before .before .args .book .now) types) (omega arith))

@@ -6,11 +6,9 @@ use Rattle.book_fields.proofs.letter_in_range.Reads as reads
 use Rattle.book_fields.proofs.letter_in_range.Lts as lts
 use Rattle.book.proofs.letter.Reads as letter-reads
 
--- src/lib.rt:98:9
 letter-requires : tie.Need-letter-requires
 letter-requires c κs = search needs
 
--- src/lib.rt:94:1
 returns : tie.Need-returns
 unfolding letterInRange within
 returns c = cc

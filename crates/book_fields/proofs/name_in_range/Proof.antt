@@ -7,23 +7,18 @@ use Rattle.book_fields.proofs.name_in_range.Lts as lts
 use Rattle.book.proofs.count.Reads as count-reads
 use Rattle.book.proofs.field.Reads as field-reads
 
--- src/lib.rt:106:5
 field-requires : tie.Need-field-requires
 field-requires c κs = search needs
 
--- src/lib.rt:106:41
 field-requires-2 : tie.Need-field-requires-2
 field-requires-2 c κs = search needs
 
--- src/lib.rt:106:5
 add-result : tie.Need-add-result
 add-result c = search needs
 
--- src/lib.rt:106:79
 count-requires : tie.Need-count-requires
 count-requires c κs = search needs
 
--- src/lib.rt:102:1
 returns : tie.Need-returns
 unfolding nameInRange within
 returns c = cc

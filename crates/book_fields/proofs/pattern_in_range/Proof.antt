@@ -7,15 +7,12 @@ use Rattle.book_fields.proofs.pattern_in_range.Lts as lts
 use Rattle.book.proofs.count.Reads as count-reads
 use Rattle.book_fields.proofs.is_range.Reads as is-range-reads
 
--- src/lib.rt:148:48
 count-requires : tie.Need-count-requires
 count-requires c κs = search needs
 
--- src/lib.rt:148:5
 is-range-requires : tie.Need-is-range-requires
 is-range-requires c κs = search needs
 
--- src/lib.rt:144:1
 returns : tie.Need-returns
 unfolding patternInRange within typeLimit
 returns c = cc

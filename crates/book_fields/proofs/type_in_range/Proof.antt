@@ -7,15 +7,12 @@ use Rattle.book_fields.proofs.type_in_range.Lts as lts
 use Rattle.book.proofs.count.Reads as count-reads
 use Rattle.book.proofs.field.Reads as field-reads
 
--- src/lib.rt:113:5
 field-requires : tie.Need-field-requires
 field-requires c κs = search needs
 
--- src/lib.rt:113:40
 count-requires : tie.Need-count-requires
 count-requires c κs = search needs
 
--- src/lib.rt:109:1
 returns : tie.Need-returns
 unfolding typeInRange within
 returns c = cc

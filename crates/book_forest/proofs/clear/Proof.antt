@@ -17,31 +17,24 @@ Inv-loop scratch₀ i₀ scratch i = (i ≤ length scratch₀) × (length scratc
 abbrev μ-loop : tie.MeasureT-loop
 μ-loop scratch₀ i₀ scratch i = length scratch₀ - i
 
--- src/lib.rt:65:5
 loop-holds : tie.Need-loop-holds Inv-loop μ-loop
 loop-holds c = (search needs, refl, fill-none _ 0)
 
--- src/lib.rt:66:9
 slice-write-scratch : tie.Need-slice-write-scratch Inv-loop μ-loop
 slice-write-scratch c = search needs
 
--- src/lib.rt:67:9
 add-i : tie.Need-add-i Inv-loop μ-loop
 add-i c = search needs
 
--- src/lib.rt:65:5
 loop-less : tie.Need-loop-less Inv-loop μ-loop
 loop-less c = search needs
 
--- src/lib.rt:65:5
 loop-again : tie.Need-loop-again Inv-loop μ-loop
 loop-again c = (search needs, simp length-set (c .before .loop .inv .1), rw (c .before .loop .inv .2) (fill-more (c .before .loop .i) 0 (c .before .before .args .scratch .now) (omega arith)))
 
--- src/lib.rt:61:1
 same-length : tie.Need-same-length Inv-loop μ-loop
 same-length c = search needs
 
--- src/lib.rt:61:1
 returns : tie.Need-returns Inv-loop μ-loop
 returns c = fill-all (c .before .loop .i) (c .before .before .args .scratch .now) _ (c .before .loop .inv .2) (omega arith)
 

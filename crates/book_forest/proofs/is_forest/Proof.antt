@@ -14,27 +14,21 @@ use Rattle.book_forest.proofs.mark_axioms.Reads as mark-axioms-reads
 use Rattle.book_forest.proofs.mark_contexts.Reads as mark-contexts-reads
 use Rattle.book_forest.proofs.mark_terms.Reads as mark-terms-reads
 
--- src/lib.rt:236:14
 mark-terms-requires : tie.Need-mark-terms-requires
 mark-terms-requires c κs = search needs
 
--- src/lib.rt:236:42
 mark-axioms-requires : tie.Need-mark-axioms-requires
 mark-axioms-requires c κs = search needs
 
--- src/lib.rt:236:71
 mark-contexts-requires : tie.Need-mark-contexts-requires
 mark-contexts-requires c κs = search needs
 
--- src/lib.rt:237:5
 clear-requires : tie.Need-clear-requires
 clear-requires c κs = search needs
 
--- src/lib.rt:232:1
 same-length : tie.Need-same-length
 same-length c = search needs
 
--- src/lib.rt:232:1
 returns : tie.Need-returns
 unfolding references
 returns c =

@@ -6,12 +6,10 @@ use Rattle.book_forest.proofs.is_marked.Tie as tie
 use Rattle.book_forest.proofs.is_marked.Reads as reads
 use Rattle.book_forest.proofs.is_marked.Lts as lts
 
--- src/lib.rt:57:5
 shared-slice-read-result : tie.Need-shared-slice-read-result
 unfolding room
 shared-slice-read-result c = search needs
 
--- src/lib.rt:53:1
 returns : tie.Need-returns
 unfolding isMarked
 returns c = refl

@@ -8,31 +8,24 @@ use Rattle.book_forest.proofs.mark.Lts as lts
 use Rattle.book_forest.proofs.is_marked.Reads as is-marked-reads
 use Rattle.book_forest.proofs.set_mark.Reads as set-mark-reads
 
--- src/lib.rt:77:9
 returns : tie.Need-returns
 returns c = mark-high _ _ _ (c .if1 .taken)
 
--- src/lib.rt:79:8
 is-marked-requires : tie.Need-is-marked-requires
 is-marked-requires c κs = search needs
 
--- src/lib.rt:80:9
 same-length : tie.Need-same-length
 same-length c = search needs
 
--- src/lib.rt:80:9
 returns-2 : tie.Need-returns-2
 returns-2 c = mark-again _ _ _ (c .before .before .before .if1 .left) (sym (c .before .is-marked .ensures) ∙ c .if2 .taken)
 
--- src/lib.rt:82:5
 set-mark-requires : tie.Need-set-mark-requires
 set-mark-requires c κs = search needs
 
--- src/lib.rt:72:1
 same-length-2 : tie.Need-same-length-2
 same-length-2 c = search needs
 
--- src/lib.rt:72:1
 returns-3 : tie.Need-returns-3
 returns-3 c = mark-new _ _ _ (c .before .before .before .before .before .before .before .if1 .left) (sym (c .before .before .before .before .before .is-marked .ensures) ∙ c .before .before .before .before .if2 .left) (c .before .before .set-mark .ensures)
 

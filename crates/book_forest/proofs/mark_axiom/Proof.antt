@@ -10,24 +10,19 @@ use Rattle.book_forest.proofs.mark_axiom.Lts as lts
 use Rattle.book.proofs.field.Reads as field-reads
 use Rattle.book_forest.proofs.mark.Reads as mark-reads
 
--- src/lib.rt:192:9
 field-requires : tie.Need-field-requires
 field-requires c κs = search needs
 
--- src/lib.rt:194:9
 returns : tie.Need-returns
 unfolding axiomReferences
 returns c = rw (← c .before .field .ensures .is, eq-eqb _ _ (c .if1 .taken)) (nothing _)
 
--- src/lib.rt:196:5
 mark-requires : tie.Need-mark-requires
 mark-requires c κs = search needs
 
--- src/lib.rt:188:1
 same-length : tie.Need-same-length
 same-length c = search needs
 
--- src/lib.rt:188:1
 returns-2 : tie.Need-returns-2
 unfolding axiomReferences
 returns-2 c = rw (← c .before .before .before .before .before .field .ensures .is, ne-eqb _ _ (c .before .before .before .before .if1 .left), ← c .before .before .before .before .before .before .before .before .pre .1) (c .before .before .mark .ensures)

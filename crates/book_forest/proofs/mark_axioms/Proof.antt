@@ -19,47 +19,36 @@ Inv-loop book scratch₀ bound n i₀ scratch i = (i ≤ n) × Marked scratch₀
 abbrev μ-loop : tie.MeasureT-loop
 μ-loop book scratch₀ bound n i₀ scratch i = n - i
 
--- src/lib.rt:203:9
 count-requires : tie.Need-count-requires Inv-loop μ-loop
 count-requires c κs = search needs
 
--- src/lib.rt:204:9
 count-requires-2 : tie.Need-count-requires-2 Inv-loop μ-loop
 count-requires-2 c κs = search needs
 
--- src/lib.rt:206:5
 loop-holds : tie.Need-loop-holds Inv-loop μ-loop
 loop-holds c = (search needs, mark-none _ _)
 
--- src/lib.rt:207:13
 mark-axiom-requires : tie.Need-mark-axiom-requires Inv-loop μ-loop
 mark-axiom-requires c κs = search needs
 
--- src/lib.rt:208:13
 same-length : tie.Need-same-length Inv-loop μ-loop
 same-length c = search needs
 
--- src/lib.rt:208:13
 returns : tie.Need-returns Inv-loop μ-loop
 returns c = mark-stop _ _ _ (c .before .before .before .before .before .before .loop .inv .1) (c .before .before .before .mark-axiom .ensures) (c .if1 .taken) (omega arith)
 
--- src/lib.rt:210:9
 add-i : tie.Need-add-i Inv-loop μ-loop
 add-i c = search needs
 
--- src/lib.rt:206:5
 loop-less : tie.Need-loop-less Inv-loop μ-loop
 loop-less c = search needs
 
--- src/lib.rt:206:5
 loop-again : tie.Need-loop-again Inv-loop μ-loop
 loop-again c = (search needs, mark-more _ _ (c .before .before .before .before .before .before .loop .inv .1) (c .before .before .before .mark-axiom .ensures) (c .if1 .left))
 
--- src/lib.rt:199:1
 same-length-2 : tie.Need-same-length-2 Inv-loop μ-loop
 same-length-2 c = search needs
 
--- src/lib.rt:199:1
 returns-2 : tie.Need-returns-2 Inv-loop μ-loop
 returns-2 c = mark-done _ _ _ (c .before .loop .inv .1) (omega arith)
 

@@ -20,53 +20,41 @@ Inv-loop book scratch₀ bound n i₀ scratch i = (i ≤ n) × Marked scratch₀
 abbrev μ-loop : tie.MeasureT-loop
 μ-loop book scratch₀ bound n i₀ scratch i = n - i
 
--- src/lib.rt:219:9
 count-requires : tie.Need-count-requires Inv-loop μ-loop
 count-requires c κs = search needs
 
--- src/lib.rt:220:9
 count-requires-2 : tie.Need-count-requires-2 Inv-loop μ-loop
 count-requires-2 c κs = search needs
 
--- src/lib.rt:222:5
 loop-holds : tie.Need-loop-holds Inv-loop μ-loop
 loop-holds c = (search needs, mark-none _ _)
 
--- src/lib.rt:223:34
 field-requires : tie.Need-field-requires Inv-loop μ-loop
 field-requires c κs = search needs
 
--- src/lib.rt:223:13
 mark-requires : tie.Need-mark-requires Inv-loop μ-loop
 mark-requires c κs = search needs
 
--- src/lib.rt:224:13
 same-length : tie.Need-same-length Inv-loop μ-loop
 same-length c = search needs
 
--- src/lib.rt:224:13
 returns : tie.Need-returns Inv-loop μ-loop
 unfolding contextReferences
 returns c = mark-stop (contextReferences (c .before .before .before .before .before .before .before .before .before .before .before .before .args .book .now)) _ _ (c .before .before .before .before .before .before .before .loop .inv .1) (rw (c .before .before .before .before .before .before .before .before .before .count .ensures .is, c .before .before .before .before .field .ensures .is) at (c .before .before .before .mark .ensures)) (c .if1 .taken) (omega arith)
 
--- src/lib.rt:226:9
 add-i : tie.Need-add-i Inv-loop μ-loop
 add-i c = search needs
 
--- src/lib.rt:222:5
 loop-less : tie.Need-loop-less Inv-loop μ-loop
 loop-less c = search needs
 
--- src/lib.rt:222:5
 loop-again : tie.Need-loop-again Inv-loop μ-loop
 unfolding contextReferences
 loop-again c = (search needs, mark-more (contextReferences (c .before .before .before .before .before .before .before .before .before .before .before .before .args .book .now)) _ (c .before .before .before .before .before .before .before .loop .inv .1) (rw (c .before .before .before .before .before .before .before .before .before .count .ensures .is, c .before .before .before .before .field .ensures .is) at (c .before .before .before .mark .ensures)) (c .if1 .left))
 
--- src/lib.rt:215:1
 same-length-2 : tie.Need-same-length-2 Inv-loop μ-loop
 same-length-2 c = search needs
 
--- src/lib.rt:215:1
 returns-2 : tie.Need-returns-2 Inv-loop μ-loop
 returns-2 c = mark-done _ _ _ (c .before .loop .inv .1) (omega arith)
 

@@ -8,27 +8,21 @@ use Rattle.book_forest.proofs.mark_let.Lts as lts
 use Rattle.book.proofs.field.Reads as field-reads
 use Rattle.book_forest.proofs.mark.Reads as mark-reads
 
--- src/lib.rt:135:22
 field-requires : tie.Need-field-requires
 field-requires c κs = search needs
 
--- src/lib.rt:135:5
 mark-requires : tie.Need-mark-requires
 mark-requires c κs = search needs
 
--- src/lib.rt:136:28
 field-requires-2 : tie.Need-field-requires-2
 field-requires-2 c κs = search needs
 
--- src/lib.rt:136:11
 mark-requires-2 : tie.Need-mark-requires-2
 mark-requires-2 c κs = search needs
 
--- src/lib.rt:131:1
 same-length : tie.Need-same-length
 same-length c = search needs
 
--- src/lib.rt:131:1
 returns : tie.Need-returns
 unfolding kindReferences
 returns c = rw (← c .before .before .before .before .before .before .before .before .field .ensures .is, ← c .before .before .before .field2 .ensures .is) (after _ _ (c .before .before .before .before .before .before .before .mark .ensures) (c .before .before .mark2 .ensures))

@@ -19,27 +19,21 @@ Inv-loop book scratch₀ bound start n j₀ scratch j = (j ≤ n) × Marked scra
 abbrev μ-loop : tie.MeasureT-loop
 μ-loop book scratch₀ bound start n j₀ scratch j = n - j
 
--- src/lib.rt:106:5
 loop-holds : tie.Need-loop-holds Inv-loop μ-loop
 loop-holds c = (search needs, mark-none _ _)
 
--- src/lib.rt:107:36
 add-field : tie.Need-add-field Inv-loop μ-loop
 add-field c = search needs
 
--- src/lib.rt:107:13
 field-requires : tie.Need-field-requires Inv-loop μ-loop
 field-requires c κs = search needs
 
--- src/lib.rt:112:13
 field-requires-2 : tie.Need-field-requires-2 Inv-loop μ-loop
 field-requires-2 c κs = (omega arith, record { laid = c .before .before .before .before .before .before .pre .0 .patterns-laid; here = omega (arith, c .before .field .ensures .is, c .before .before .before .before .before .before .pre .2 .known (c .before .before .before .loop .j) (c .before .before .loop-test .taken)); within = omega arith })
 
--- src/lib.rt:113:13
 field-requires-3 : tie.Need-field-requires-3 Inv-loop μ-loop
 field-requires-3 c κs = (omega arith, record { laid = c .before .before .before .before .before .before .before .pre .0 .patterns-laid; here = omega (arith, c .before .before .field .ensures .is, c .before .before .before .before .before .before .before .pre .2 .known (c .before .before .before .before .loop .j) (c .before .before .before .loop-test .taken)); within = omega arith })
 
--- src/lib.rt:108:13
 mark-range-requires : tie.Need-mark-range-requires Inv-loop μ-loop
 mark-range-requires c κs = (
   c .before .before .before .before .before .before .before .before .pre .0 .lists-laid,
@@ -47,33 +41,26 @@ mark-range-requires c κs = (
   search needs,
 )
 
--- src/lib.rt:115:13
 same-length : tie.Need-same-length Inv-loop μ-loop
 same-length c = search needs
 
--- src/lib.rt:115:13
 returns : tie.Need-returns Inv-loop μ-loop
 unfolding listedReferences patternReferences
 returns c = mark-stop (listedReferences (c .before .before .before .before .before .before .before .before .before .before .before .before .args .book .now) (c .before .before .before .before .before .before .before .before .before .before .before .before .args .bound) (c .before .before .before .before .before .before .before .before .before .before .before .before .args .start)) _ _ (c .before .before .before .before .before .before .before .before .before .loop .inv .1) (rw (c .before .before .before .before .before .field2 .ensures .is, c .before .before .before .before .field3 .ensures .is, c .before .before .before .before .before .before .before .field .ensures .is) at (c .before .before .before .mark-range .ensures)) (c .if1 .taken) (omega arith)
 
--- src/lib.rt:117:9
 add-j : tie.Need-add-j Inv-loop μ-loop
 add-j c = search needs
 
--- src/lib.rt:106:5
 loop-less : tie.Need-loop-less Inv-loop μ-loop
 loop-less c = search needs
 
--- src/lib.rt:106:5
 loop-again : tie.Need-loop-again Inv-loop μ-loop
 unfolding listedReferences patternReferences
 loop-again c = (search needs, mark-more (listedReferences (c .before .before .before .before .before .before .before .before .before .before .before .before .args .book .now) (c .before .before .before .before .before .before .before .before .before .before .before .before .args .bound) (c .before .before .before .before .before .before .before .before .before .before .before .before .args .start)) _ (c .before .before .before .before .before .before .before .before .before .loop .inv .1) (rw (c .before .before .before .before .before .field2 .ensures .is, c .before .before .before .before .field3 .ensures .is, c .before .before .before .before .before .before .before .field .ensures .is) at (c .before .before .before .mark-range .ensures)) (c .if1 .left))
 
--- src/lib.rt:101:1
 same-length-2 : tie.Need-same-length-2 Inv-loop μ-loop
 same-length-2 c = search needs
 
--- src/lib.rt:101:1
 returns-2 : tie.Need-returns-2 Inv-loop μ-loop
 returns-2 c = mark-done _ _ _ (c .before .loop .inv .1) (omega arith)
 

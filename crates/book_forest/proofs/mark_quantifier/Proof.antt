@@ -9,31 +9,24 @@ use Rattle.book.proofs.field.Reads as field-reads
 use Rattle.book_forest.proofs.mark.Reads as mark-reads
 use Rattle.book_forest.proofs.mark_patterns.Reads as mark-patterns-reads
 
--- src/lib.rt:147:9
 field-requires : tie.Need-field-requires
 field-requires c κs = search needs
 
--- src/lib.rt:148:9
 field-requires-2 : tie.Need-field-requires-2
 field-requires-2 c κs = search needs
 
--- src/lib.rt:143:5
 mark-patterns-requires : tie.Need-mark-patterns-requires
 mark-patterns-requires c κs = (c .before .before .before .before .before .pre .0, c .before .before .before .before .before .pre .1, rw (c .before .field .ensures .is, c .field2 .ensures .is) (c .before .before .before .before .before .pre .1 .quantifier (c .before .before .before .before .before .args .t) (c .before .before .before .before .before .pre .2) (c .before .before .before .before .before .pre .3)), search needs)
 
--- src/lib.rt:150:28
 field-requires-3 : tie.Need-field-requires-3
 field-requires-3 c κs = search needs
 
--- src/lib.rt:150:11
 mark-requires : tie.Need-mark-requires
 mark-requires c κs = search needs
 
--- src/lib.rt:139:1
 same-length : tie.Need-same-length
 same-length c = search needs
 
--- src/lib.rt:139:1
 returns : tie.Need-returns
 unfolding kindReferences
 returns c = rw (← c .before .before .before .before .before .before .before .before .before .field .ensures .is, ← c .before .before .before .before .before .before .before .before .field2 .ensures .is, ← c .before .before .before .field3 .ensures .is) (after _ _ (c .before .before .before .before .before .before .before .mark-patterns .ensures) (c .before .before .mark .ensures))

@@ -19,49 +19,38 @@ Inv-loop book scratch₀ bound start n j₀ scratch j = (j ≤ n) × Marked scra
 abbrev μ-loop : tie.MeasureT-loop
 μ-loop book scratch₀ bound start n j₀ scratch j = n - j
 
--- src/lib.rt:91:5
 loop-holds : tie.Need-loop-holds Inv-loop μ-loop
 loop-holds c = (search needs, mark-none _ _)
 
--- src/lib.rt:92:53
 add-field : tie.Need-add-field Inv-loop μ-loop
 add-field c = search needs
 
--- src/lib.rt:92:34
 field-requires : tie.Need-field-requires Inv-loop μ-loop
 field-requires c κs = search needs
 
--- src/lib.rt:92:13
 mark-requires : tie.Need-mark-requires Inv-loop μ-loop
 mark-requires c κs = search needs
 
--- src/lib.rt:93:13
 same-length : tie.Need-same-length Inv-loop μ-loop
 same-length c = search needs
 
--- src/lib.rt:93:13
 returns : tie.Need-returns Inv-loop μ-loop
 unfolding rangeReferences entryReference
 returns c = mark-stop (entryReference (c .before .before .before .before .before .before .before .before .before .before .args .book .now) (c .before .before .before .before .before .before .before .before .before .before .args .bound) (c .before .before .before .before .before .before .before .before .before .before .args .start)) _ _ (c .before .before .before .before .before .before .before .loop .inv .1) (rw (c .before .before .before .before .field .ensures .is) at (c .before .before .before .mark .ensures)) (c .if1 .taken) (omega arith)
 
--- src/lib.rt:95:9
 add-j : tie.Need-add-j Inv-loop μ-loop
 add-j c = search needs
 
--- src/lib.rt:91:5
 loop-less : tie.Need-loop-less Inv-loop μ-loop
 loop-less c = search needs
 
--- src/lib.rt:91:5
 loop-again : tie.Need-loop-again Inv-loop μ-loop
 unfolding entryReference
 loop-again c = (search needs, mark-more (entryReference (c .before .before .before .before .before .before .before .before .before .before .args .book .now) (c .before .before .before .before .before .before .before .before .before .before .args .bound) (c .before .before .before .before .before .before .before .before .before .before .args .start)) _ (c .before .before .before .before .before .before .before .loop .inv .1) (rw (c .before .before .before .before .field .ensures .is) at (c .before .before .before .mark .ensures)) (c .if1 .left))
 
--- src/lib.rt:86:1
 same-length-2 : tie.Need-same-length-2 Inv-loop μ-loop
 same-length-2 c = search needs
 
--- src/lib.rt:86:1
 returns-2 : tie.Need-returns-2 Inv-loop μ-loop
 unfolding rangeReferences
 returns-2 c = mark-done _ _ _ (c .before .loop .inv .1) (omega arith)

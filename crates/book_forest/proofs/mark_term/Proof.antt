@@ -15,31 +15,24 @@ use Rattle.book_forest.proofs.mark_let.Reads as mark-let-reads
 use Rattle.book_forest.proofs.mark_quantifier.Reads as mark-quantifier-reads
 use Rattle.book_forest.proofs.mark_range.Reads as mark-range-reads
 
--- src/lib.rt:157:9
 field-requires : tie.Need-field-requires
 field-requires c κs = search needs
 
--- src/lib.rt:166:25
 mark-if-requires : tie.Need-mark-if-requires
 mark-if-requires c κs = search needs
 
--- src/lib.rt:167:21
 mark-let-requires : tie.Need-mark-let-requires
 mark-let-requires c κs = search needs
 
--- src/lib.rt:168:28
 mark-quantifier-requires : tie.Need-mark-quantifier-requires
 mark-quantifier-requires c κs = (c .before .before .before .before .before .pre .0, c .before .before .before .before .before .pre .1, c .before .before .before .before .before .pre .2, sym (c .before .before .field .ensures .is) ∙ c .before .match .keys3, search needs)
 
--- src/lib.rt:163:13
 field-requires-2 : tie.Need-field-requires-2
 field-requires-2 c κs = search needs
 
--- src/lib.rt:164:13
 field-requires-3 : tie.Need-field-requires-3
 field-requires-3 c κs = search needs
 
--- src/lib.rt:159:35
 mark-range-requires : tie.Need-mark-range-requires
 mark-range-requires c κs = (
   c .before .before .before .before .before .before .before .before .before .pre .0 .lists-laid,
@@ -47,50 +40,40 @@ mark-range-requires c κs = (
   search needs,
 )
 
--- src/lib.rt:153:1
 same-length : tie.Need-same-length
 same-length c = search needs
 
--- src/lib.rt:153:1
 returns : tie.Need-returns
 unfolding termReferences kindOf
 returns c = rw (sym (c .before .before .before .before .before .field .ensures .is) ∙ c .before .before .before .before .match .keys1) (c .before .before .mark-if .ensures)
 
--- src/lib.rt:153:1
 same-length-2 : tie.Need-same-length-2
 same-length-2 c = search needs
 
--- src/lib.rt:153:1
 returns-2 : tie.Need-returns-2
 unfolding termReferences kindOf
 returns-2 c = rw (sym (c .before .before .before .before .before .field .ensures .is) ∙ c .before .before .before .before .match .keys2) (c .before .before .mark-let .ensures)
 
--- src/lib.rt:153:1
 same-length-3 : tie.Need-same-length-3
 same-length-3 c = search needs
 
--- src/lib.rt:153:1
 returns-3 : tie.Need-returns-3
 unfolding termReferences kindOf
 returns-3 c = rw (sym (c .before .before .before .before .before .field .ensures .is) ∙ c .before .before .before .before .match .keys3) (c .before .before .mark-quantifier .ensures)
 
--- src/lib.rt:153:1
 same-length-4 : tie.Need-same-length-4
 same-length-4 c = search needs
 
--- src/lib.rt:153:1
 returns-4 : tie.Need-returns-4
 returns-4 c =
     rw (← application-children (c .before .before .before .before .before .before .before .before .before .before .before .before .args .book .now) (c .before .before .before .before .before .before .before .before .before .before .before .before .args .t) (c .before .before .before .before .before .before .before .before .before .field .result) (c .before .before .before .before .before .before .before .before .before .field .ensures .is) (omega arith) (omega arith), ← c .before .before .before .before .field2 .ensures .is, ← c .before .before .before .field3 .ensures .is)
     (c .before .before .mark-range .ensures)
 
--- src/lib.rt:153:1
 returns-5 : tie.Need-returns-5
 returns-5 c =
     let r = c .before .match .rest in
     rw (no-children (c .before .before .before .before .before .args .book .now) (c .before .before .before .before .before .args .t) (c .before .before .field .result) (c .before .before .field .ensures .is) (λ e. omega arith) (λ e. omega arith) (r .0 .0 .1) (r .0 .1) (r .1)) (nothing _)
 
--- src/lib.rt:153:1
 returns-6 : tie.Need-returns-6
 returns-6 c =
     let r = c .before .before .match .rest in

@@ -19,43 +19,33 @@ Inv-loop book scratch₀ n t₀ scratch t = (t ≤ n) × Marked scratch₀ (join
 abbrev μ-loop : tie.MeasureT-loop
 μ-loop book scratch₀ n t₀ scratch t = n - t
 
--- src/lib.rt:177:9
 count-requires : tie.Need-count-requires Inv-loop μ-loop
 count-requires c κs = search needs
 
--- src/lib.rt:179:5
 loop-holds : tie.Need-loop-holds Inv-loop μ-loop
 loop-holds c = (search needs, mark-none _ _)
 
--- src/lib.rt:180:13
 mark-term-requires : tie.Need-mark-term-requires Inv-loop μ-loop
 mark-term-requires c κs = (c .before .before .before .before .before .before .pre .0, c .before .before .before .before .before .before .pre .1, omega arith, omega arith)
 
--- src/lib.rt:181:13
 same-length : tie.Need-same-length Inv-loop μ-loop
 same-length c = search needs
 
--- src/lib.rt:181:13
 returns : tie.Need-returns Inv-loop μ-loop
 returns c = mark-stop _ _ _ (c .before .before .before .before .before .before .loop .inv .1) (c .before .before .before .mark-term .ensures) (c .if1 .taken) (omega arith)
 
--- src/lib.rt:183:9
 add-t : tie.Need-add-t Inv-loop μ-loop
 add-t c = search needs
 
--- src/lib.rt:179:5
 loop-less : tie.Need-loop-less Inv-loop μ-loop
 loop-less c = search needs
 
--- src/lib.rt:179:5
 loop-again : tie.Need-loop-again Inv-loop μ-loop
 loop-again c = (search needs, mark-more _ _ (c .before .before .before .before .before .before .loop .inv .1) (c .before .before .before .mark-term .ensures) (c .if1 .left))
 
--- src/lib.rt:173:1
 same-length-2 : tie.Need-same-length-2 Inv-loop μ-loop
 same-length-2 c = search needs
 
--- src/lib.rt:173:1
 returns-2 : tie.Need-returns-2 Inv-loop μ-loop
 returns-2 c = mark-done _ _ _ (c .before .loop .inv .1) (omega arith)
 

@@ -6,16 +6,13 @@ use Rattle.book_forest.proofs.set_mark.Tie as tie
 use Rattle.book_forest.proofs.set_mark.Reads as reads
 use Rattle.book_forest.proofs.set_mark.Lts as lts
 
--- src/lib.rt:50:5
 slice-write-scratch : tie.Need-slice-write-scratch
 unfolding room
 slice-write-scratch c = search needs
 
--- src/lib.rt:46:1
 same-length : tie.Need-same-length
 same-length c = search needs
 
--- src/lib.rt:46:1
 returns : tie.Need-returns
 unfolding setMark
 returns c = refl

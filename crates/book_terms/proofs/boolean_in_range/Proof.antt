@@ -8,15 +8,12 @@ use Rattle.book_terms.proofs.boolean_in_range.Lts as lts
 use Rattle.book.proofs.field.Reads as field-reads
 use Rattle.book_terms.proofs.uses.Reads as uses-reads
 
--- src/lib.rt:91:6
 field-requires : tie.Need-field-requires
 field-requires c κs = search needs
 
--- src/lib.rt:91:55
 uses-requires : tie.Need-uses-requires
 uses-requires c κs = search needs
 
--- src/lib.rt:87:1
 returns : tie.Need-returns
 unfolding kindInRange within
 returns c = cc

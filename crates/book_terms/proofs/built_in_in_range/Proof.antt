@@ -10,27 +10,21 @@ use Rattle.book.proofs.field.Reads as field-reads
 use Rattle.book_fields.proofs.is_range.Reads as is-range-reads
 use Rattle.book_terms.proofs.uses.Reads as uses-reads
 
--- src/lib.rt:114:6
 field-requires : tie.Need-field-requires
 field-requires c κs = search needs
 
--- src/lib.rt:114:40
 count-requires : tie.Need-count-requires
 count-requires c κs = search needs
 
--- src/lib.rt:115:47
 count-requires-2 : tie.Need-count-requires-2
 count-requires-2 c κs = search needs
 
--- src/lib.rt:115:11
 is-range-requires : tie.Need-is-range-requires
 is-range-requires c κs = search needs
 
--- src/lib.rt:116:11
 uses-requires : tie.Need-uses-requires
 uses-requires c κs = search needs
 
--- src/lib.rt:110:1
 returns : tie.Need-returns
 unfolding kindInRange within
 returns c = cc

@@ -9,19 +9,15 @@ use Rattle.book.proofs.count.Reads as count-reads
 use Rattle.book.proofs.field.Reads as field-reads
 use Rattle.book_terms.proofs.uses.Reads as uses-reads
 
--- src/lib.rt:107:6
 field-requires : tie.Need-field-requires
 field-requires c κs = search needs
 
--- src/lib.rt:107:43
 count-requires : tie.Need-count-requires
 count-requires c κs = search needs
 
--- src/lib.rt:107:69
 uses-requires : tie.Need-uses-requires
 uses-requires c κs = search needs
 
--- src/lib.rt:103:1
 returns : tie.Need-returns
 unfolding kindInRange within
 returns c = cc

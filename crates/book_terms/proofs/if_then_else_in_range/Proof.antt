@@ -9,27 +9,21 @@ use Rattle.book.proofs.count.Reads as count-reads
 use Rattle.book.proofs.field.Reads as field-reads
 use Rattle.book_terms.proofs.uses.Reads as uses-reads
 
--- src/lib.rt:132:9
 count-requires : tie.Need-count-requires
 count-requires c κs = search needs
 
--- src/lib.rt:133:6
 field-requires : tie.Need-field-requires
 field-requires c κs = search needs
 
--- src/lib.rt:134:12
 field-requires-2 : tie.Need-field-requires-2
 field-requires-2 c κs = search needs
 
--- src/lib.rt:135:12
 field-requires-3 : tie.Need-field-requires-3
 field-requires-3 c κs = search needs
 
--- src/lib.rt:136:11
 uses-requires : tie.Need-uses-requires
 uses-requires c κs = search needs
 
--- src/lib.rt:128:1
 returns : tie.Need-returns
 unfolding kindInRange within
 returns c = cc

@@ -6,19 +6,15 @@ use Rattle.book_terms.proofs.is_zero.Reads as reads
 use Rattle.book_terms.proofs.is_zero.Lts as lts
 use Rattle.book.proofs.field.Reads as field-reads
 
--- src/lib.rt:68:27
 add-field : tie.Need-add-field
 add-field c = search needs
 
--- src/lib.rt:68:27
 add-field-2 : tie.Need-add-field-2
 add-field-2 c = search needs
 
--- src/lib.rt:68:5
 field-requires : tie.Need-field-requires
 field-requires c κs = search needs
 
--- src/lib.rt:64:1
 returns : tie.Need-returns
 unfolding isZero
 returns c = cc

@@ -9,31 +9,24 @@ use Rattle.book.proofs.count.Reads as count-reads
 use Rattle.book.proofs.field.Reads as field-reads
 use Rattle.book_terms.proofs.uses.Reads as uses-reads
 
--- src/lib.rt:143:9
 count-requires : tie.Need-count-requires
 count-requires c κs = search needs
 
--- src/lib.rt:144:6
 field-requires : tie.Need-field-requires
 field-requires c κs = search needs
 
--- src/lib.rt:144:44
 count-requires-2 : tie.Need-count-requires-2
 count-requires-2 c κs = search needs
 
--- src/lib.rt:145:12
 field-requires-2 : tie.Need-field-requires-2
 field-requires-2 c κs = search needs
 
--- src/lib.rt:146:12
 field-requires-3 : tie.Need-field-requires-3
 field-requires-3 c κs = search needs
 
--- src/lib.rt:147:11
 uses-requires : tie.Need-uses-requires
 uses-requires c κs = search needs
 
--- src/lib.rt:139:1
 returns : tie.Need-returns
 unfolding kindInRange within
 returns c = cc

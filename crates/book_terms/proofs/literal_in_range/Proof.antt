@@ -10,27 +10,21 @@ use Rattle.book.proofs.field.Reads as field-reads
 use Rattle.book_fields.proofs.is_type.Reads as is-type-reads
 use Rattle.book_terms.proofs.uses.Reads as uses-reads
 
--- src/lib.rt:98:6
 field-requires : tie.Need-field-requires
 field-requires c κs = search needs
 
--- src/lib.rt:98:44
 count-requires : tie.Need-count-requires
 count-requires c κs = search needs
 
--- src/lib.rt:99:25
 field-requires-2 : tie.Need-field-requires-2
 field-requires-2 c κs = search needs
 
--- src/lib.rt:99:11
 is-type-requires : tie.Need-is-type-requires
 is-type-requires c κs = search needs
 
--- src/lib.rt:100:11
 uses-requires : tie.Need-uses-requires
 uses-requires c κs = search needs
 
--- src/lib.rt:94:1
 returns : tie.Need-returns
 unfolding kindInRange within
 returns c = cc

@@ -9,35 +9,27 @@ use Rattle.book.proofs.count.Reads as count-reads
 use Rattle.book.proofs.field.Reads as field-reads
 use Rattle.book_fields.proofs.is_range.Reads as is-range-reads
 
--- src/lib.rt:154:6
 field-requires : tie.Need-field-requires
 field-requires c κs = search needs
 
--- src/lib.rt:155:58
 count-requires : tie.Need-count-requires
 count-requires c κs = search needs
 
--- src/lib.rt:155:11
 is-range-requires : tie.Need-is-range-requires
 is-range-requires c κs = search needs
 
--- src/lib.rt:156:57
 count-requires-2 : tie.Need-count-requires-2
 count-requires-2 c κs = search needs
 
--- src/lib.rt:156:11
 is-range-requires-2 : tie.Need-is-range-requires-2
 is-range-requires-2 c κs = search needs
 
--- src/lib.rt:157:12
 field-requires-2 : tie.Need-field-requires-2
 field-requires-2 c κs = search needs
 
--- src/lib.rt:157:53
 count-requires-3 : tie.Need-count-requires-3
 count-requires-3 c κs = search needs
 
--- src/lib.rt:150:1
 returns : tie.Need-returns
 unfolding kindInRange within
 returns c = cc

@@ -18,92 +18,72 @@ use Rattle.book_terms.proofs.literal_in_range.Reads as literal-in-range
 use Rattle.book_terms.proofs.quantifier_in_range.Reads as quantifier-in-range-reads
 use Rattle.book_terms.proofs.uses.Reads as uses-reads
 
--- src/lib.rt:164:9
 field-requires : tie.Need-field-requires
 field-requires c κs = search needs
 
--- src/lib.rt:166:20
 boolean-in-range-requires : tie.Need-boolean-in-range-requires
 boolean-in-range-requires c κs = search needs
 
--- src/lib.rt:167:20
 uses-requires : tie.Need-uses-requires
 uses-requires c κs = search needs
 
--- src/lib.rt:168:27
 literal-in-range-requires : tie.Need-literal-in-range-requires
 literal-in-range-requires c κs = search needs
 
--- src/lib.rt:169:15
 id-in-range-requires : tie.Need-id-in-range-requires
 id-in-range-requires c κs = search needs
 
--- src/lib.rt:170:21
 built-in-in-range-requires : tie.Need-built-in-in-range-requires
 built-in-in-range-requires c κs = search needs
 
--- src/lib.rt:171:24
 application-in-range-requires : tie.Need-application-in-range-requires
 application-in-range-requires c κs = search needs
 
--- src/lib.rt:172:25
 if-then-else-in-range-requires : tie.Need-if-then-else-in-range-requires
 if-then-else-in-range-requires c κs = search needs
 
--- src/lib.rt:173:21
 let-expr-in-range-requires : tie.Need-let-expr-in-range-requires
 let-expr-in-range-requires c κs = search needs
 
--- src/lib.rt:174:28
 quantifier-in-range-requires : tie.Need-quantifier-in-range-requires
 quantifier-in-range-requires c κs = search needs
 
--- src/lib.rt:160:1
 returns : tie.Need-returns
 unfolding termInRange kindInRange kindOf
 returns c = rw (sym (c .before .before .field .ensures .is) ∙ c .before .match .keys1) (c .boolean-in-range .ensures)
 
--- src/lib.rt:160:1
 returns-2 : tie.Need-returns-2
 unfolding termInRange kindInRange kindOf
 returns-2 c = rw (sym (c .before .before .field .ensures .is) ∙ c .before .match .keys2) (c .uses .ensures)
 
--- src/lib.rt:160:1
 returns-3 : tie.Need-returns-3
 unfolding termInRange kindInRange kindOf
 returns-3 c = rw (sym (c .before .before .field .ensures .is) ∙ c .before .match .keys3) (c .literal-in-range .ensures)
 
--- src/lib.rt:160:1
 returns-4 : tie.Need-returns-4
 unfolding termInRange kindInRange kindOf
 returns-4 c = rw (sym (c .before .before .field .ensures .is) ∙ c .before .match .keys4) (c .id-in-range .ensures)
 
--- src/lib.rt:160:1
 returns-5 : tie.Need-returns-5
 unfolding termInRange kindInRange kindOf
 returns-5 c = rw (sym (c .before .before .field .ensures .is) ∙ c .before .match .keys5) (c .built-in-in-range .ensures)
 
--- src/lib.rt:160:1
 returns-6 : tie.Need-returns-6
 unfolding termInRange kindInRange kindOf
 returns-6 c = rw (sym (c .before .before .field .ensures .is) ∙ c .before .match .keys6) (c .application-in-range .ensures)
 
--- src/lib.rt:160:1
 returns-7 : tie.Need-returns-7
 unfolding termInRange kindInRange kindOf
 returns-7 c = rw (sym (c .before .before .field .ensures .is) ∙ c .before .match .keys7) (c .if-then-else-in-range .ensures)
 
--- src/lib.rt:160:1
 returns-8 : tie.Need-returns-8
 unfolding termInRange kindInRange kindOf
 returns-8 c = rw (sym (c .before .before .field .ensures .is) ∙ c .before .match .keys8) (c .let-expr-in-range .ensures)
 
--- src/lib.rt:160:1
 returns-9 : tie.Need-returns-9
 unfolding termInRange kindInRange kindOf
 returns-9 c = rw (sym (c .before .before .field .ensures .is) ∙ c .before .match .keys9) (c .quantifier-in-range .ensures)
 
--- src/lib.rt:160:1
 returns-10 : tie.Need-returns-10
 unfolding termInRange
 returns-10 c =

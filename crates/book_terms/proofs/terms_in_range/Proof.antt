@@ -19,36 +19,28 @@ Inv-loop book n t₀ t = (t ≤ n) × (allBelow t (termInRange book) ≡ true)
 abbrev μ-loop : tie.MeasureT-loop
 μ-loop book n t₀ t = n - t
 
--- src/lib.rt:183:9
 count-requires : tie.Need-count-requires Inv-loop μ-loop
 count-requires c κs = search needs
 
--- src/lib.rt:185:5
 loop-holds : tie.Need-loop-holds Inv-loop μ-loop
 loop-holds c = (search needs, all-none _)
 
--- src/lib.rt:186:13
 term-in-range-requires : tie.Need-term-in-range-requires Inv-loop μ-loop
 term-in-range-requires c κs = search needs
 
--- src/lib.rt:187:13
 returns : tie.Need-returns Inv-loop μ-loop
 unfolding termsInRange
 returns c = all-stop _ _ _ (c .before .term-in-range .ensures) (c .if1 .taken) (omega arith)
 
--- src/lib.rt:189:9
 add-t : tie.Need-add-t Inv-loop μ-loop
 add-t c = search needs
 
--- src/lib.rt:185:5
 loop-less : tie.Need-loop-less Inv-loop μ-loop
 loop-less c = search needs
 
--- src/lib.rt:185:5
 loop-again : tie.Need-loop-again Inv-loop μ-loop
 loop-again c = (search needs, all-more _ _ (c .before .before .before .loop .inv .1) (c .before .term-in-range .ensures) (c .if1 .left))
 
--- src/lib.rt:179:1
 returns-2 : tie.Need-returns-2 Inv-loop μ-loop
 unfolding termsInRange
 returns-2 c = all-done _ _ _ (c .before .loop .inv .1) (omega arith)

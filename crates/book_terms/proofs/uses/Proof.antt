@@ -18,36 +18,28 @@ Inv-loop book t used n j₀ j = (j ≤ n) × (allBelow j (isZero book t used) �
 abbrev μ-loop : tie.MeasureT-loop
 μ-loop book t used n j₀ j = n - j
 
--- src/lib.rt:76:13
 sub-n : tie.Need-sub-n Inv-loop μ-loop
 sub-n c = search needs
 
--- src/lib.rt:78:5
 loop-holds : tie.Need-loop-holds Inv-loop μ-loop
 loop-holds c = (search needs, all-none _)
 
--- src/lib.rt:79:13
 is-zero-requires : tie.Need-is-zero-requires Inv-loop μ-loop
 is-zero-requires c κs = search needs
 
--- src/lib.rt:80:13
 returns : tie.Need-returns Inv-loop μ-loop
 unfolding uses
 returns c = all-stop _ _ _ (c .before .is-zero .ensures) (c .if1 .taken) (omega arith)
 
--- src/lib.rt:82:9
 add-j : tie.Need-add-j Inv-loop μ-loop
 add-j c = search needs
 
--- src/lib.rt:78:5
 loop-less : tie.Need-loop-less Inv-loop μ-loop
 loop-less c = search needs
 
--- src/lib.rt:78:5
 loop-again : tie.Need-loop-again Inv-loop μ-loop
 loop-again c = (search needs, all-more _ _ (c .before .before .before .loop .inv .1) (c .before .is-zero .ensures) (c .if1 .left))
 
--- src/lib.rt:72:1
 returns-2 : tie.Need-returns-2 Inv-loop μ-loop
 unfolding uses
 returns-2 c = all-done _ _ _ (c .before .loop .inv .1) (omega arith)

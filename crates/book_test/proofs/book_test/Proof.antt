@@ -23,68 +23,53 @@ use Rattle.book_forest.proofs.is_forest.Reads as is-forest-reads
 use Rattle.book_records.proofs.fields_in_range.Reads as fields-in-range-reads
 use Rattle.book_terms.proofs.terms_in_range.Reads as terms-in-range-reads
 
--- src/lib.rt:26:9
 returns : tie.Need-returns
 unfolding testedValue number bookTestCall
 returns c = (refused-1 (c .before .before .before .args .book .now) (length (c .before .before .before .args .scratch .now)) (c .if1 .taken), untouched (c .before .before .before .args .scratch .now) (c .if1 .taken))
 
--- src/lib.rt:28:5
 clear-requires : tie.Need-clear-requires
 clear-requires c κs = search needs
 
--- src/lib.rt:29:9
 laid-out-requires : tie.Need-laid-out-requires
 laid-out-requires c κs = search needs
 
--- src/lib.rt:30:9
 same-length : tie.Need-same-length
 same-length c = search needs
 
--- src/lib.rt:30:9
 returns-2 : tie.Need-returns-2
 unfolding testedValue number bookTestCall
 returns-2 c = (refused-2 (c .before .before .before .before .before .before .before .before .before .args .book .now) (length (c .before .before .before .before .before .before .before .before .before .args .scratch .now)) (c .before .before .before .before .before .before .if1 .left) (failed (c .before .laid-out .ensures) (c .if2 .taken)), c .before .before .before .before .clear .ensures ∙ zeroed (c .before .before .before .before .before .before .before .before .before .args .scratch .now) (c .before .before .before .before .before .before .if1 .left))
 
--- src/lib.rt:32:9
 counts-fit-requires : tie.Need-counts-fit-requires
 counts-fit-requires c κs = contents-stand _ (passed (c .before .laid-out .ensures) (c .if2 .left))
 
--- src/lib.rt:33:9
 same-length-2 : tie.Need-same-length-2
 same-length-2 c = search needs
 
--- src/lib.rt:33:9
 returns-3 : tie.Need-returns-3
 unfolding testedValue number bookTestCall
 returns-3 c = (refused-3 (c .before .before .before .before .before .before .before .before .before .before .before .args .book .now) (length (c .before .before .before .before .before .before .before .before .before .before .before .args .scratch .now)) (c .before .before .before .before .before .before .before .before .if1 .left) (passed (c .before .before .before .laid-out .ensures) (c .before .before .if2 .left)) (failed (c .before .counts-fit .ensures) (c .if3 .taken)), c .before .before .before .before .before .before .clear .ensures ∙ zeroed (c .before .before .before .before .before .before .before .before .before .before .before .args .scratch .now) (c .before .before .before .before .before .before .before .before .if1 .left))
 
--- src/lib.rt:35:9
 fields-in-range-requires : tie.Need-fields-in-range-requires
 fields-in-range-requires c κs = all-laid _ (passed (c .before .before .before .laid-out .ensures) (c .before .before .if2 .left)) (passed (c .before .counts-fit .ensures) (c .if3 .left))
 
--- src/lib.rt:36:9
 same-length-3 : tie.Need-same-length-3
 same-length-3 c = search needs
 
--- src/lib.rt:36:9
 returns-4 : tie.Need-returns-4
 unfolding testedValue number bookTestCall
 returns-4 c = (refused-4 (c .before .before .before .before .before .before .before .before .before .before .before .before .before .args .book .now) (length (c .before .before .before .before .before .before .before .before .before .before .before .before .before .args .scratch .now)) (c .before .before .before .before .before .before .before .before .before .before .if1 .left) (passed (c .before .before .before .before .before .laid-out .ensures) (c .before .before .before .before .if2 .left)) (passed (c .before .before .before .counts-fit .ensures) (c .before .before .if3 .left)) (fields-fail _ (failed (c .before .fields-in-range .ensures) (c .if4 .taken))), c .before .before .before .before .before .before .before .before .clear .ensures ∙ zeroed (c .before .before .before .before .before .before .before .before .before .before .before .before .before .args .scratch .now) (c .before .before .before .before .before .before .before .before .before .before .if1 .left))
 
--- src/lib.rt:38:9
 terms-in-range-requires : tie.Need-terms-in-range-requires
 terms-in-range-requires c κs = all-laid _ (passed (c .before .before .before .before .before .laid-out .ensures) (c .before .before .before .before .if2 .left)) (passed (c .before .before .before .counts-fit .ensures) (c .before .before .if3 .left))
 
--- src/lib.rt:39:9
 same-length-4 : tie.Need-same-length-4
 same-length-4 c = search needs
 
--- src/lib.rt:39:9
 returns-5 : tie.Need-returns-5
 unfolding testedValue number bookTestCall
 returns-5 c = (refused-4 (c .before .before .before .before .before .before .before .before .before .before .before .before .before .before .before .args .book .now) (length (c .before .before .before .before .before .before .before .before .before .before .before .before .before .before .before .args .scratch .now)) (c .before .before .before .before .before .before .before .before .before .before .before .before .if1 .left) (passed (c .before .before .before .before .before .before .before .laid-out .ensures) (c .before .before .before .before .before .before .if2 .left)) (passed (c .before .before .before .before .before .counts-fit .ensures) (c .before .before .before .before .if3 .left)) (terms-fail _ (failed (c .before .terms-in-range .ensures) (c .if5 .taken))), c .before .before .before .before .before .before .before .before .before .before .clear .ensures ∙ zeroed (c .before .before .before .before .before .before .before .before .before .before .before .before .before .before .before .args .scratch .now) (c .before .before .before .before .before .before .before .before .before .before .before .before .if1 .left))
 
--- src/lib.rt:41:9
 is-forest-requires : tie.Need-is-forest-requires
 is-forest-requires c κs =
     let L = all-laid (c .before .before .before .before .before .before .before .before .before .before .before .before .before .before .before .before .args .book .now) (passed (c .before .before .before .before .before .before .before .before .laid-out .ensures) (c .before .before .before .before .before .before .before .if2 .left)) (passed (c .before .before .before .before .before .before .counts-fit .ensures) (c .before .before .before .before .before .if3 .left)) in (
@@ -94,33 +79,26 @@ is-forest-requires c κs =
       c .before .before .before .before .before .before .before .before .before .before .before .clear .ensures ∙ ap (λ (n : ℕ). replicate n 0) (sym (c .before .before .before .before .before .before .before .before .before .before .before .clear .kept .0)),
     )
 
--- src/lib.rt:42:9
 same-length-5 : tie.Need-same-length-5
 same-length-5 c = search needs
 
--- src/lib.rt:42:9
 returns-6 : tie.Need-returns-6
 unfolding testedValue number bookTestCall
 returns-6 c = (refused-5 (c .before .before .before .before .before .before .before .before .before .before .before .before .before .before .before .before .before .before .before .before .args .book .now) (length (c .before .before .before .before .before .before .before .before .before .before .before .before .before .before .before .before .before .before .before .before .args .scratch .now)) (c .before .before .before .before .before .before .before .before .before .before .before .before .before .before .before .before .before .if1 .left) (passed (c .before .before .before .before .before .before .before .before .before .before .before .before .laid-out .ensures) (c .before .before .before .before .before .before .before .before .before .before .before .if2 .left)) (passed (c .before .before .before .before .before .before .before .before .before .before .counts-fit .ensures) (c .before .before .before .before .before .before .before .before .before .if3 .left)) (range-pass _ (passed (c .before .before .before .before .before .before .before .before .fields-in-range .ensures) (c .before .before .before .before .before .before .before .if4 .left)) (passed (c .before .before .before .before .before .before .terms-in-range .ensures) (c .before .before .before .before .before .if5 .left))) (failed (c .before .before .before .is-forest .ensures .0) (c .if6 .taken)), c .before .before .before .is-forest .ensures .1 ∙ ap (λ (n : ℕ). replicate n 0) (c .before .before .before .before .before .before .before .before .before .before .before .before .before .before .before .clear .kept .0) ∙ zeroed (c .before .before .before .before .before .before .before .before .before .before .before .before .before .before .before .before .before .before .before .before .args .scratch .now) (c .before .before .before .before .before .before .before .before .before .before .before .before .before .before .before .before .before .if1 .left))
 
--- src/lib.rt:44:9
 shallow-requires : tie.Need-shallow-requires
 shallow-requires c κs = (all-laid _ (passed (c .before .before .before .before .before .before .before .before .before .before .before .before .laid-out .ensures) (c .before .before .before .before .before .before .before .before .before .before .before .if2 .left)) (passed (c .before .before .before .before .before .before .before .before .before .before .counts-fit .ensures) (c .before .before .before .before .before .before .before .before .before .if3 .left)) .contexts-laid, rooted _ (range-pass _ (passed (c .before .before .before .before .before .before .before .before .fields-in-range .ensures) (c .before .before .before .before .before .before .before .if4 .left)) (passed (c .before .before .before .before .before .before .terms-in-range .ensures) (c .before .before .before .before .before .if5 .left))))
 
--- src/lib.rt:45:9
 same-length-6 : tie.Need-same-length-6
 same-length-6 c = search needs
 
--- src/lib.rt:45:9
 returns-7 : tie.Need-returns-7
 unfolding testedValue number bookTestCall
 returns-7 c = (refused-6 (c .before .before .before .before .before .before .before .before .before .before .before .before .before .before .before .before .before .before .before .before .before .before .args .book .now) (length (c .before .before .before .before .before .before .before .before .before .before .before .before .before .before .before .before .before .before .before .before .before .before .args .scratch .now)) (c .before .before .before .before .before .before .before .before .before .before .before .before .before .before .before .before .before .before .before .if1 .left) (passed (c .before .before .before .before .before .before .before .before .before .before .before .before .before .before .laid-out .ensures) (c .before .before .before .before .before .before .before .before .before .before .before .before .before .if2 .left)) (passed (c .before .before .before .before .before .before .before .before .before .before .before .before .counts-fit .ensures) (c .before .before .before .before .before .before .before .before .before .before .before .if3 .left)) (range-pass _ (passed (c .before .before .before .before .before .before .before .before .before .before .fields-in-range .ensures) (c .before .before .before .before .before .before .before .before .before .if4 .left)) (passed (c .before .before .before .before .before .before .before .before .terms-in-range .ensures) (c .before .before .before .before .before .before .before .if5 .left))) (passed (c .before .before .before .before .before .is-forest .ensures .0) (c .before .before .if6 .left)) (failed (c .before .shallow .ensures) (c .if7 .taken)), c .before .before .before .before .before .is-forest .ensures .1 ∙ ap (λ (n : ℕ). replicate n 0) (c .before .before .before .before .before .before .before .before .before .before .before .before .before .before .before .before .before .clear .kept .0) ∙ zeroed (c .before .before .before .before .before .before .before .before .before .before .before .before .before .before .before .before .before .before .before .before .before .before .args .scratch .now) (c .before .before .before .before .before .before .before .before .before .before .before .before .before .before .before .before .before .before .before .if1 .left))
 
--- src/lib.rt:22:1
 same-length-7 : tie.Need-same-length-7
 same-length-7 c = search needs
 
--- src/lib.rt:22:1
 returns-8 : tie.Need-returns-8
 unfolding testedValue number bookTestCall
 returns-8 c = (accepted-all (c .before .before .before .before .before .before .before .before .before .before .before .before .before .before .before .before .before .before .before .before .before .before .args .book .now) (length (c .before .before .before .before .before .before .before .before .before .before .before .before .before .before .before .before .before .before .before .before .before .before .args .scratch .now)) (c .before .before .before .before .before .before .before .before .before .before .before .before .before .before .before .before .before .before .before .if1 .left) (passed (c .before .before .before .before .before .before .before .before .before .before .before .before .before .before .laid-out .ensures) (c .before .before .before .before .before .before .before .before .before .before .before .before .before .if2 .left)) (passed (c .before .before .before .before .before .before .before .before .before .before .before .before .counts-fit .ensures) (c .before .before .before .before .before .before .before .before .before .before .before .if3 .left)) (range-pass _ (passed (c .before .before .before .before .before .before .before .before .before .before .fields-in-range .ensures) (c .before .before .before .before .before .before .before .before .before .if4 .left)) (passed (c .before .before .before .before .before .before .before .before .terms-in-range .ensures) (c .before .before .before .before .before .before .before .if5 .left))) (passed (c .before .before .before .before .before .is-forest .ensures .0) (c .before .before .if6 .left)) (passed (c .before .shallow .ensures) (c .if7 .left)), c .before .before .before .before .before .is-forest .ensures .1 ∙ ap (λ (n : ℕ). replicate n 0) (c .before .before .before .before .before .before .before .before .before .before .before .before .before .before .before .before .before .clear .kept .0) ∙ zeroed (c .before .before .before .before .before .before .before .before .before .before .before .before .before .before .before .before .before .before .before .before .before .before .args .scratch .now) (c .before .before .before .before .before .before .before .before .before .before .before .before .before .before .before .before .before .before .before .if1 .left))

@@ -23,7 +23,6 @@ pops-at t = and 1 pops-kinds.ps (is 1 pops-kinds.ps μ-pops t) pops.Pre
 abbrev pops-below : ℕ → In 1 pops-kinds.ps
 pops-below t = and 1 pops-kinds.ps (falls 1 pops-kinds.ps _<_ μ-pops t) pops.Pre
 
--- src/lib.rt:53:9
 pops-returns : (t : ℕ) → pops-lts.Need-returns (
   parent-reads.Asked,
   parent-reads.Learnt,
@@ -32,7 +31,6 @@ pops-returns : (t : ℕ) → pops-lts.Need-returns (
 ) (pops-at t) pops.Post
 pops-returns t c = (sym (ap (popsOf (program (c .before .before .args .book .now)) (c .before .before .args .old)) (sym (c .if1 .taken)) ∙ pops-same _ (c .before .before .pre .1 .promise) (c .before .before .args .old)), omega arith)
 
--- src/lib.rt:56:27
 pops-parent-requires : (t : ℕ) → pops-lts.Need-parent-requires (
   parent-reads.Asked,
   parent-reads.Learnt,
@@ -41,7 +39,6 @@ pops-parent-requires : (t : ℕ) → pops-lts.Need-parent-requires (
 ) (pops-at t) pops.Post
 pops-parent-requires t c κs = record { promise = c .before .before .before .pre .1 .promise; inside = c .before .before .before .pre .1 .from; below = omega (arith, c .if2 .taken) }
 
--- src/lib.rt:56:16
 pops-pops-requires : (t : ℕ) → pops-lts.Need-pops-requires (
   parent-reads.Asked,
   parent-reads.Learnt,
@@ -50,7 +47,6 @@ pops-pops-requires : (t : ℕ) → pops-lts.Need-pops-requires (
 ) (pops-at t) pops.Post
 pops-pops-requires t c κs = (omega (arith, c .before .before .before .before .pre .0, c .parent .ensures .smaller), record { promise = c .before .before .before .before .pre .1 .promise; from = omega (arith, c .parent .ensures .smaller, c .before .before .before .before .pre .1 .from); to = c .before .before .before .before .pre .1 .to })
 
--- src/lib.rt:56:16
 pops-add-result : (t : ℕ) → pops-lts.Need-add-result (
   parent-reads.Asked,
   parent-reads.Learnt,
@@ -59,7 +55,6 @@ pops-add-result : (t : ℕ) → pops-lts.Need-add-result (
 ) (pops-at t) pops.Post
 pops-add-result t c = omega (arith, c .pops .ensures .1, c .before .parent .ensures .smaller)
 
--- src/lib.rt:56:9
 pops-returns-2 : (t : ℕ) → pops-lts.Need-returns-2 (
   parent-reads.Asked,
   parent-reads.Learnt,
@@ -68,7 +63,6 @@ pops-returns-2 : (t : ℕ) → pops-lts.Need-returns-2 (
 ) (pops-at t) pops.Post
 pops-returns-2 t c = (pops-old _ (c .before .before .before .before .before .pre .1 .promise) _ _ _ _ (c .before .before .if2 .taken) (c .before .parent .ensures .is) (c .pops .ensures .0), omega (arith, c .pops .ensures .1, c .before .parent .ensures .smaller))
 
--- src/lib.rt:58:21
 pops-parent-requires-2 : (t : ℕ) → pops-lts.Need-parent-requires-2 (
   parent-reads.Asked,
   parent-reads.Learnt,
@@ -77,7 +71,6 @@ pops-parent-requires-2 : (t : ℕ) → pops-lts.Need-parent-requires-2 (
 ) (pops-at t) pops.Post
 pops-parent-requires-2 t c κs = record { promise = c .before .before .before .pre .1 .promise; inside = c .before .before .before .pre .1 .to; below = omega (arith, c .if2 .left, c .before .if1 .left) }
 
--- src/lib.rt:58:5
 pops-pops-requires-2 : (t : ℕ) → pops-lts.Need-pops-requires-2 (
   parent-reads.Asked,
   parent-reads.Learnt,
@@ -86,7 +79,6 @@ pops-pops-requires-2 : (t : ℕ) → pops-lts.Need-pops-requires-2 (
 ) (pops-at t) pops.Post
 pops-pops-requires-2 t c κs = (omega (arith, c .before .before .before .before .pre .0, c .parent2 .ensures .smaller), record { promise = c .before .before .before .before .pre .1 .promise; from = c .before .before .before .before .pre .1 .from; to = omega (arith, c .parent2 .ensures .smaller, c .before .before .before .before .pre .1 .to) })
 
--- src/lib.rt:48:1
 pops-returns-3 : (t : ℕ) → pops-lts.Need-returns-3 (
   parent-reads.Asked,
   parent-reads.Learnt,

@@ -7,19 +7,15 @@ use Rattle.excluded.proofs.has.Tie as tie
 use Rattle.excluded.proofs.has.Reads as reads
 use Rattle.excluded.proofs.has.Lts as lts
 
--- src/lib.rt:31:5
 element-copy-out-result : tie.Need-element-copy-out-result
 element-copy-out-result c = search needs
 
--- src/lib.rt:31:18
 array-read-result : tie.Need-array-read-result
 array-read-result c = search needs
 
--- src/lib.rt:31:5
 div-result : tie.Need-div-result
 div-result c = power-some (c .before .args .v % 8) (omega arith)
 
--- src/lib.rt:27:1
 returns : tie.Need-returns
 returns c = bit-is _ _
 

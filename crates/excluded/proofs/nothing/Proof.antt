@@ -5,7 +5,6 @@ use Rattle.excluded.proofs.nothing.Tie as tie
 use Rattle.excluded.proofs.nothing.Reads as reads
 use Rattle.excluded.proofs.nothing.Lts as lts
 
--- src/lib.rt:20:1
 returns : tie.Need-returns
 returns c = excludes-none
 

@@ -9,27 +9,21 @@ use Rattle.excluded.proofs.with.Lts as lts
 use Rattle.excluded.proofs.has.Reads as has-reads
 use Rattle.excluded.proofs.with_bit.Reads as with-bit-reads
 
--- src/lib.rt:48:8
 has-requires : tie.Need-has-requires
 has-requires c κs = search needs
 
--- src/lib.rt:49:9
 returns : tie.Need-returns
 returns c = joined-old (c .before .before .before .pre .0) (sym (c .before .has .ensures) ∙ c .if1 .taken)
 
--- src/lib.rt:51:27
 array-read-with-bit : tie.Need-array-read-with-bit
 array-read-with-bit c = search needs
 
--- src/lib.rt:51:18
 with-bit-requires : tie.Need-with-bit-requires
 with-bit-requires c κs = (omega arith, bit-clear _ _ (sym (c .before .has .ensures) ∙ c .if1 .left))
 
--- src/lib.rt:51:5
 array-write-all : tie.Need-array-write-all
 array-write-all c = search needs
 
--- src/lib.rt:43:1
 returns-2 : tie.Need-returns-2
 returns-2 c = joined-new _ _ (c .with-bit .ensures) (c .before .before .before .before .pre .0) (c .before .before .before .before .pre .1) (sym (c .before .before .has .ensures) ∙ c .before .if1 .left)
 

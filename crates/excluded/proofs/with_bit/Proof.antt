@@ -6,15 +6,12 @@ use Rattle.excluded.proofs.with_bit.Tie as tie
 use Rattle.excluded.proofs.with_bit.Reads as reads
 use Rattle.excluded.proofs.with_bit.Lts as lts
 
--- src/lib.rt:39:12
 array-read-result : tie.Need-array-read-result
 array-read-result c = search needs
 
--- src/lib.rt:39:5
 add-result : tie.Need-add-result
 add-result c = record { fits = bit-room _ _ (c .pre .0) (c .pre .1) (c .fits .byte .fits) }
 
--- src/lib.rt:35:1
 returns : tie.Need-returns
 returns c = search needs
 

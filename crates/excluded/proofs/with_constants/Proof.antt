@@ -19,35 +19,27 @@ Inv-loop book start count set all₀ i₀ all i = (i ≤ count) × Ranged book s
 abbrev μ-loop : tie.MeasureT-loop
 μ-loop book start count set all₀ i₀ all i = count - i
 
--- src/lib.rt:62:5
 loop-holds : tie.Need-loop-holds Inv-loop μ-loop
 loop-holds c = (omega arith, ranged-none _ _ _, c .before .before .pre .2)
 
--- src/lib.rt:63:36
 add-field : tie.Need-add-field Inv-loop μ-loop
 add-field c = omega (arith, c .before .before .before .before .pre .1 .ends, c .before .before .before .before .pre .0 .lists-laid .few)
 
--- src/lib.rt:63:13
 field-requires : tie.Need-field-requires Inv-loop μ-loop
 field-requires c κs = reads-list (c .before .before .before .before .pre .0) (omega (arith, c .before .before .before .before .pre .1 .ends))
 
--- src/lib.rt:64:13
 with-requires : tie.Need-with-requires Inv-loop μ-loop
 with-requires c κs = (c .before .before .before .loop .inv .2, omega (arith, c .before .field .ensures .is, c .before .before .before .before .before .before .pre .1 .below (c .before .before .before .loop .i) (omega arith), c .before .before .before .before .before .before .pre .0 .constants-laid .few))
 
--- src/lib.rt:66:9
 add-i : tie.Need-add-i Inv-loop μ-loop
 add-i c = omega (arith, c .before .before .before .before .before .before .before .pre .1 .ends, c .before .before .before .before .before .before .before .pre .0 .lists-laid .few)
 
--- src/lib.rt:62:5
 loop-less : tie.Need-loop-less Inv-loop μ-loop
 loop-less c = omega arith
 
--- src/lib.rt:62:5
 loop-again : tie.Need-loop-again Inv-loop μ-loop
 loop-again c = (omega arith, ranged-more _ _ _ (c .before .before .before .before .loop .inv .1) (c .before .before .field .ensures .is) (c .with .ensures), c .with .ensures .long)
 
--- src/lib.rt:56:1
 returns : tie.Need-returns Inv-loop μ-loop
 returns c = let e : c .before .loop .i ≡ c .before .before .before .before .args .count = omega arith in rw e at (c .before .loop .inv .1)
 

@@ -10,39 +10,30 @@ use Rattle.literals.proofs.is_named.Reads as is-named-reads
 use Rattle.literals.proofs.is_tag.Reads as is-tag-reads
 use Rattle.literals.proofs.send_literal.Reads as send-literal-reads
 
--- src/lib.rt:178:8
 is-tag-requires : tie.Need-is-tag-requires
 is-tag-requires c κs = (c .before .before .before .pre .0 .promise, c .before .before .before .pre .1, c .before .before .before .pre .2)
 
--- src/lib.rt:179:9
 returns : tie.Need-returns
 returns c = literal-tag _ _ _ _ _ _ (sym (c .before .is-tag .ensures) ∙ c .if1 .taken) (omega (arith, c .before .before .before .before .before .good .1 .1 .1 .1 .0))
 
--- src/lib.rt:181:8
 is-named-requires : tie.Need-is-named-requires
 is-named-requires c κs = (c .before .before .before .before .before .before .pre .0 .promise, c .before .before .before .before .before .before .pre .1, c .before .before .before .before .before .before .pre .2, c .before .before .before .before .before .before .pre .0 .wide)
 
--- src/lib.rt:182:9
 same-length : tie.Need-same-length
 same-length c = search needs
 
--- src/lib.rt:182:9
 returns-2 : tie.Need-returns-2
 returns-2 c = literal-old _ _ _ _ _ _ (sym (c .before .before .before .before .is-tag .ensures) ∙ c .before .before .before .if1 .left) (sym (c .before .is-named .ensures) ∙ c .if2 .taken) (omega (arith, c .before .before .before .before .before .before .before .before .good .1 .1 .1 .1 .0))
 
--- src/lib.rt:184:5
 send-literal-requires : tie.Need-send-literal-requires
 send-literal-requires c κs = c .before .before .before .before .before .before .before .before .before .before .pre
 
--- src/lib.rt:167:1
 same-length-2 : tie.Need-same-length-2
 same-length-2 c = search needs
 
--- src/lib.rt:167:1
 same-length-3 : tie.Need-same-length-3
 same-length-3 c = search needs
 
--- src/lib.rt:167:1
 returns-3 : tie.Need-returns-3
 returns-3 c = literal-sent _ _ (sym (c .before .before .before .before .before .before .before .before .before .before .before .is-tag .ensures) ∙ c .before .before .before .before .before .before .before .before .before .before .if1 .left) (sym (c .before .before .before .before .before .before .before .before .is-named .ensures) ∙ c .before .before .before .before .before .before .before .if2 .left) (c .before .before .before .before .send-literal .ensures)
 

@@ -9,31 +9,24 @@ use Rattle.literals.proofs.declares_name.Lts as lts
 use Rattle.book.proofs.field.Reads as field-reads
 use Rattle.literals.proofs.has_name.Reads as has-name-reads
 
--- src/lib.rt:97:15
 add-if1 : tie.Need-add-if1
 add-if1 c = omega (arith, c .before .before .before .before .pre .1, c .before .before .before .before .pre .0 .terms-laid .few)
 
--- src/lib.rt:97:8
 shared-slice-read-if1 : tie.Need-shared-slice-read-if1
 shared-slice-read-if1 c = omega (arith, c .before .before .before .before .before .pre .1, c .before .before .before .before .before .pre .2, c .before .before .before .before .before .pre .0 .terms-laid .few)
 
--- src/lib.rt:98:9
 returns : tie.Need-returns
 returns c = none-here _ _ _ _ (c .if1 .taken)
 
--- src/lib.rt:100:8
 field-requires : tie.Need-field-requires
 field-requires c κs = reads-term (c .before .before .before .before .before .before .pre .0) 0 (omega arith) (c .before .before .before .before .before .before .pre .1)
 
--- src/lib.rt:101:9
 has-name-requires : tie.Need-has-name-requires
 has-name-requires c κs = (c .before .before .before .before .before .before .before .before .pre .0, c .before .before .before .before .before .before .before .before .pre .1, good-literal _ (c .before .before .before .before .before .before .before .before .pre .0) (c .before .before .before .before .before .before .before .before .pre .1) (c .before .field .ensures .is) (c .if2 .taken))
 
--- src/lib.rt:93:1
 returns-2 : tie.Need-returns-2
 returns-2 c = literal-here _ _ _ _ (c .before .before .before .if1 .left) (c .before .before .field .ensures .is) (c .before .if2 .taken) (c .has-name .ensures)
 
--- src/lib.rt:93:1
 returns-3 : tie.Need-returns-3
 returns-3 c = other-here _ _ _ _ (c .before .before .if1 .left) (c .before .field .ensures .is) (c .if2 .left)
 

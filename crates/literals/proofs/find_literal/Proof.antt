@@ -20,35 +20,27 @@ Inv-loop book s typ levels all k₀ k = (k ≤ all) × (all ≡ size book terms)
 abbrev μ-loop : tie.MeasureT-loop
 μ-loop book s typ levels all k₀ k = all - k
 
--- src/lib.rt:112:9
 count-requires : tie.Need-count-requires Inv-loop μ-loop
 count-requires c κs = (omega arith, c .before .before .before .before .pre .0 .terms-laid .contents)
 
--- src/lib.rt:114:5
 loop-holds : tie.Need-loop-holds Inv-loop μ-loop
 loop-holds c = (omega arith, c .count .ensures .is, λ j l. absurd (omega arith))
 
--- src/lib.rt:115:12
 declares-name-requires : tie.Need-declares-name-requires Inv-loop μ-loop
 declares-name-requires c κs = (c .before .before .before .before .before .before .before .pre .0, omega (arith, c .before .loop .inv .1), c .before .before .before .before .before .before .before .pre .1)
 
--- src/lib.rt:116:13
 returns : tie.Need-returns Inv-loop μ-loop
 returns c = name-found _ _ _ (c .before .before .before .loop .k) (c .before .before .before .before .before .before .before .before .before .pre .1) (c .before .before .before .before .before .before .before .before .before .pre .0 .terms-laid .few) (omega (arith, c .before .before .before .loop .inv .1)) (c .before .declares-name .ensures) (c .if1 .taken)
 
--- src/lib.rt:118:9
 add-k : tie.Need-add-k Inv-loop μ-loop
 add-k c = omega (arith, c .before .before .before .loop .inv .1, c .before .before .before .before .before .before .before .before .before .pre .0 .terms-laid .few)
 
--- src/lib.rt:114:5
 loop-less : tie.Need-loop-less Inv-loop μ-loop
 loop-less c = omega arith
 
--- src/lib.rt:114:5
 loop-again : tie.Need-loop-again Inv-loop μ-loop
 loop-again c = (omega arith, c .before .before .before .loop .inv .1, below-more _ _ (c .before .before .before .loop .inv .2) (sym (c .before .declares-name .ensures) ∙ c .if1 .left))
 
--- src/lib.rt:108:1
 returns-2 : tie.Need-returns-2 Inv-loop μ-loop
 returns-2 c = name-nowhere _ _ _ (omega (arith, c .before .loop .inv .1)) (c .before .loop .inv .2)
 

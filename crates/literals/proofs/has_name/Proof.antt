@@ -12,51 +12,39 @@ use Rattle.book.proofs.field.Reads as field-reads
 use Rattle.literals.proofs.same_pair.Reads as same-pair-reads
 use Rattle.records.proofs.named.Reads as named-reads
 
--- src/lib.rt:83:9
 named-requires : tie.Need-named-requires
 named-requires c κs = named-term (c .before .before .before .pre .0) (c .before .before .before .pre .1) (c .before .before .before .pre .2 .name)
 
--- src/lib.rt:84:9
 field-requires : tie.Need-field-requires
 field-requires c κs = reads-term (c .before .before .before .before .pre .0) 2 (omega arith) (c .before .before .before .before .pre .1)
 
--- src/lib.rt:86:39
 slice-aggregate-same-pair : tie.Need-slice-aggregate-same-pair
 slice-aggregate-same-pair c = search needs
 
--- src/lib.rt:86:14
 same-pair-requires : tie.Need-same-pair-requires
 same-pair-requires c κs = search needs
 
--- src/lib.rt:87:39
 slice-aggregate-same-pair-2 : tie.Need-slice-aggregate-same-pair-2
 slice-aggregate-same-pair-2 c = search needs
 
--- src/lib.rt:87:14
 same-pair-requires-2 : tie.Need-same-pair-requires-2
 same-pair-requires-2 c κs = search needs
 
--- src/lib.rt:88:58
 sub-named : tie.Need-sub-named
 sub-named c = omega (arith, c .match .rest .0 .1, c .match .rest .1)
 
--- src/lib.rt:88:39
 named-requires-2 : tie.Need-named-requires-2
 named-requires-2 c κs = named-type (c .before .before .before .before .before .before .pre .0) (user-type _ (c .before .field .ensures .is) (c .before .before .before .before .before .before .pre .2) (c .match .rest .0 .1) (c .match .rest .1))
 
--- src/lib.rt:88:14
 same-pair-requires-3 : tie.Need-same-pair-requires-3
 same-pair-requires-3 c κs = search needs
 
--- src/lib.rt:79:1
 returns : tie.Need-returns
 returns c = c .same-pair .ensures ∙ ap (same _) (name-bool _ _ (c .before .before .before .before .named .ensures) (c .before .before .before .field .ensures .is) (c .before .before .match .keys1))
 
--- src/lib.rt:79:1
 returns-2 : tie.Need-returns-2
 returns-2 c = c .same-pair2 .ensures ∙ ap (same _) (name-int _ _ (c .before .before .before .before .named .ensures) (c .before .before .before .field .ensures .is) (c .before .before .match .keys2))
 
--- src/lib.rt:79:1
 returns-3 : tie.Need-returns-3
 returns-3 c = c .same-pair3 .ensures ∙ ap (same _) (name-user _ _ (c .before .before .before .before .named .ensures) (c .before .before .before .field .ensures .is) (c .before .before .match .rest .0 .1) (c .before .before .match .rest .1) (c .before .named2 .ensures))
 

@@ -15,51 +15,39 @@ use Rattle.book.proofs.field.Reads as field-reads
 use Rattle.literals.proofs.find_literal.Reads as find-literal-reads
 use Rattle.records.proofs.named.Reads as named-reads
 
--- src/lib.rt:128:9
 named-requires : tie.Need-named-requires
 named-requires c κs = named-term (c .before .before .pre .0) (c .before .before .pre .1) (c .before .before .pre .2 .name)
 
--- src/lib.rt:129:9
 field-requires : tie.Need-field-requires
 field-requires c κs = reads-term (c .before .before .before .pre .0) 2 (omega arith) (c .before .before .before .pre .1)
 
--- src/lib.rt:131:36
 slice-aggregate-find-literal : tie.Need-slice-aggregate-find-literal
 slice-aggregate-find-literal c = search needs
 
--- src/lib.rt:131:14
 find-literal-requires : tie.Need-find-literal-requires
 find-literal-requires c κs = (c .before .before .before .before .before .before .pre .0, c .before .before .before .before .before .before .pre .3)
 
--- src/lib.rt:132:36
 slice-aggregate-find-literal-2 : tie.Need-slice-aggregate-find-literal-2
 slice-aggregate-find-literal-2 c = search needs
 
--- src/lib.rt:132:14
 find-literal-requires-2 : tie.Need-find-literal-requires-2
 find-literal-requires-2 c κs = (c .before .before .before .before .before .before .pre .0, c .before .before .before .before .before .before .pre .3)
 
--- src/lib.rt:133:55
 sub-named : tie.Need-sub-named
 sub-named c = omega (arith, c .match .rest .0 .1, c .match .rest .1)
 
--- src/lib.rt:133:36
 named-requires-2 : tie.Need-named-requires-2
 named-requires-2 c κs = named-type (c .before .before .before .before .before .pre .0) (user-type _ (c .before .field .ensures .is) (c .before .before .before .before .before .pre .2) (c .match .rest .0 .1) (c .match .rest .1))
 
--- src/lib.rt:133:14
 find-literal-requires-3 : tie.Need-find-literal-requires-3
 find-literal-requires-3 c κs = (c .before .before .before .before .before .before .pre .0, c .before .before .before .before .before .before .pre .3)
 
--- src/lib.rt:124:1
 returns : tie.Need-returns
 returns c = c .find-literal .ensures ∙ ap (λ (x : Text). nameIn x (program (c .before .before .before .before .before .before .before .args .book .now) .literals) (drop literalPlaces (c .before .before .before .before .before .before .before .args .levels .now))) (name-bool _ _ (c .before .before .before .before .named .ensures) (c .before .before .before .field .ensures .is) (c .before .before .match .keys1))
 
--- src/lib.rt:124:1
 returns-2 : tie.Need-returns-2
 returns-2 c = c .find-literal2 .ensures ∙ ap (λ (x : Text). nameIn x (program (c .before .before .before .before .before .before .before .args .book .now) .literals) (drop literalPlaces (c .before .before .before .before .before .before .before .args .levels .now))) (name-int _ _ (c .before .before .before .before .named .ensures) (c .before .before .before .field .ensures .is) (c .before .before .match .keys2))
 
--- src/lib.rt:124:1
 returns-3 : tie.Need-returns-3
 returns-3 c = c .find-literal3 .ensures ∙ ap (λ (x : Text). nameIn x (program (c .before .before .before .before .before .before .before .args .book .now) .literals) (drop literalPlaces (c .before .before .before .before .before .before .before .args .levels .now))) (name-user _ _ (c .before .before .before .before .named .ensures) (c .before .before .before .field .ensures .is) (c .before .before .match .rest .0 .1) (c .before .before .match .rest .1) (c .before .named2 .ensures))
 

@@ -13,19 +13,15 @@ use Rattle.literals.proofs.is_tag.Lts as lts
 use Rattle.literals.proofs.same.Reads as same-reads
 use Rattle.records.proofs.named.Reads as named-reads
 
--- src/lib.rt:142:10
 named-requires : tie.Need-named-requires
 named-requires c κs = named-term (c .before .pre .0) (c .before .pre .1) (c .before .pre .2 .name)
 
--- src/lib.rt:142:47
 slice-aggregate-same : tie.Need-slice-aggregate-same
 slice-aggregate-same c = search needs
 
--- src/lib.rt:142:5
 same-requires : tie.Need-same-requires
 same-requires c κs = search needs
 
--- src/lib.rt:138:1
 returns : tie.Need-returns
 unfolding isTag literalOf
 returns c = c .same .ensures ∙ ap (λ (x : Text). same x (ascii "%tag")) (c .before .before .named .ensures)

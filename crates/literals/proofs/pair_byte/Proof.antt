@@ -6,31 +6,24 @@ use Rattle.literals.proofs.pair_byte.Tie as tie
 use Rattle.literals.proofs.pair_byte.Reads as reads
 use Rattle.literals.proofs.pair_byte.Lts as lts
 
--- src/lib.rt:52:16
 shared-slice-read-result : tie.Need-shared-slice-read-result
 shared-slice-read-result c = search needs
 
--- src/lib.rt:52:9
 returns : tie.Need-returns
 returns c = pair-left (c .before .before .args .s .now) (c .before .before .args .typ .now) (c .before .before .args .i) (c .before .if1 .taken)
 
--- src/lib.rt:55:9
 returns-2 : tie.Need-returns-2
 returns-2 c = pair-colon (c .before .before .args .s .now) (c .before .before .args .typ .now) (c .before .before .args .i) (c .if2 .taken)
 
--- src/lib.rt:57:9
 sub-result : tie.Need-sub-result
 sub-result c = omega (arith, c .before .if1 .left, c .if2 .left)
 
--- src/lib.rt:57:9
 sub-result-2 : tie.Need-sub-result-2
 sub-result-2 c = omega (arith, c .before .if1 .left, c .if2 .left)
 
--- src/lib.rt:57:5
 shared-slice-read-result-2 : tie.Need-shared-slice-read-result-2
 shared-slice-read-result-2 c = omega (arith, c .before .before .if1 .left, c .before .if2 .left, c .before .before .before .pre, pair-length (c .before .before .before .args .s .now) (c .before .before .before .args .typ .now))
 
--- src/lib.rt:47:1
 returns-3 : tie.Need-returns-3
 returns-3 c = pair-right (c .before .before .before .args .s .now) (c .before .before .before .args .typ .now) (c .before .before .before .args .i) (λ l. omega (arith, c .before .before .if1 .left)) (c .before .if2 .left)
 

@@ -18,47 +18,36 @@ Inv-loop s typ s2 typ2 n i₀ i = (n ≡ length s + length typ) × (n ≡ length
 abbrev μ-loop : tie.MeasureT-loop
 μ-loop s typ s2 typ2 n i₀ i = n + 1 - i
 
--- src/lib.rt:64:13
 add-n : tie.Need-add-n Inv-loop μ-loop
 add-n c = omega (arith, c .before .before .before .before .good .0 .1, c .before .before .before .before .good .1 .0 .1)
 
--- src/lib.rt:65:13
 add-if1 : tie.Need-add-if1 Inv-loop μ-loop
 add-if1 c = omega (arith, c .before .before .before .before .good .1 .1 .0 .1, c .before .before .before .before .good .1 .1 .1 .0 .1)
 
--- src/lib.rt:66:9
 returns : tie.Need-returns Inv-loop μ-loop
 returns c = same-length _ _ (λ e. c .if1 .taken (omega (arith, e, (pair-length (c .before .before .before .before .before .args .s .now) (c .before .before .before .before .before .args .typ .now)), (pair-length (c .before .before .before .before .before .args .s2 .now) (c .before .before .before .before .before .args .typ2 .now))))) ∙ sym (same-barred _ _ _ _)
 
--- src/lib.rt:69:5
 loop-holds : tie.Need-loop-holds Inv-loop μ-loop
 loop-holds c = (omega arith, omega (arith, c .if1 .left), omega arith, λ k l. absurd (omega arith))
 
--- src/lib.rt:70:12
 pair-byte-requires : tie.Need-pair-byte-requires Inv-loop μ-loop
 pair-byte-requires c κs = omega (arith, (pair-length (c .before .before .before .before .before .before .before .args .s .now) (c .before .before .before .before .before .before .before .args .typ .now)))
 
--- src/lib.rt:70:36
 pair-byte-requires-2 : tie.Need-pair-byte-requires-2 Inv-loop μ-loop
 pair-byte-requires-2 c κs = omega (arith, (pair-length (c .before .before .before .before .before .before .before .before .args .s2 .now) (c .before .before .before .before .before .before .before .before .args .typ2 .now)))
 
--- src/lib.rt:71:13
 returns-2 : tie.Need-returns-2 Inv-loop μ-loop
 returns-2 c = same-byte _ _ (c .before .before .before .before .loop .i) (λ e. c .if2 .taken (c .before .before .pair-byte .ensures ∙ e ∙ sym (c .before .pair-byte2 .ensures))) ∙ sym (same-barred _ _ _ _)
 
--- src/lib.rt:73:9
 add-i : tie.Need-add-i Inv-loop μ-loop
 add-i c = omega (arith, c .before .before .before .before .before .before .before .before .before .before .good .0 .1, c .before .before .before .before .before .before .before .before .before .before .good .1 .0 .1)
 
--- src/lib.rt:69:5
 loop-less : tie.Need-loop-less Inv-loop μ-loop
 loop-less c = omega arith
 
--- src/lib.rt:69:5
 loop-again : tie.Need-loop-again Inv-loop μ-loop
 loop-again c = (c .before .before .before .before .loop .inv .0, c .before .before .before .before .loop .inv .1, omega arith, below-more _ _ (c .before .before .before .before .loop .inv .3) (sym (c .before .before .pair-byte .ensures) ∙ c .if2 .left ∙ c .before .pair-byte2 .ensures))
 
--- src/lib.rt:61:1
 returns-3 : tie.Need-returns-3 Inv-loop μ-loop
 returns-3 c = same-bytes _ _ (c .before .loop .i) (omega (arith, (pair-length (c .before .before .before .before .before .before .before .args .s .now) (c .before .before .before .before .before .before .before .args .typ .now)), (pair-length (c .before .before .before .before .before .before .before .args .s2 .now) (c .before .before .before .before .before .before .before .args .typ2 .now)))) (omega (arith, (pair-length (c .before .before .before .before .before .before .before .args .s .now) (c .before .before .before .before .before .before .before .args .typ .now)))) (c .before .loop .inv .3) ∙ sym (same-barred _ _ _ _)
 

@@ -12,35 +12,27 @@ use Rattle.levels.proofs.mark.Reads as mark-reads
 use Rattle.levels.proofs.declare_new_types.Reads as declare-new-types-reads
 use Rattle.smt_engines.proofs.declare_literal.Reads as declare-literal-reads
 
--- src/lib.rt:157:9
 field-requires : tie.Need-field-requires
 field-requires c κs = reads-term (c .before .before .before .pre .0 .promise) 2 (omega arith) (c .before .before .before .pre .1)
 
--- src/lib.rt:158:9
 declare-new-types-requires : tie.Need-declare-new-types-requires
 declare-new-types-requires c κs = (c .before .before .before .before .before .before .pre .0, rw (c .before .before .field .ensures .is) (c .before .before .before .before .before .before .pre .2 .typ))
 
--- src/lib.rt:161:10
 add-mark : tie.Need-add-mark
 add-mark c = omega (arith, c .before .before .before .before .before .before .before .before .before .before .before .pre .1, c .before .before .before .before .before .before .before .before .before .before .before .pre .0 .promise .terms-laid .few)
 
--- src/lib.rt:161:5
 mark-requires : tie.Need-mark-requires
 mark-requires c κs = omega (arith, c .before .before .before .before .before .before .before .before .before .before .before .before .pre .0 .wide, c .before .before .before .before .before .before .before .before .before .before .before .before .pre .1, c .before .before .before .before .before .before .before .before .before .before .before .before .pre .0 .promise .terms-laid .few, c .before .before .before .before .before .declare-new-types .kept .1 .1 .1 .0)
 
--- src/lib.rt:162:9
 declare-literal-requires : tie.Need-declare-literal-requires
 declare-literal-requires c κs = (c .before .before .before .before .before .before .before .before .before .before .before .before .before .before .before .before .pre .0 .promise, c .before .before .before .before .before .before .before .before .before .before .before .before .before .before .before .before .pre .1, c .before .before .before .before .before .before .before .before .before .before .before .before .before .before .before .before .pre .2)
 
--- src/lib.rt:146:1
 same-length : tie.Need-same-length
 same-length c = search needs
 
--- src/lib.rt:146:1
 same-length-2 : tie.Need-same-length-2
 same-length-2 c = search needs
 
--- src/lib.rt:146:1
 returns : tie.Need-returns
 returns c = literal-new _ _ (c .before .before .before .before .before .before .before .before .before .before .before .before .before .before .before .before .before .before .before .good .1 .1 .1 .1 .1 .0 .0) (c .before .before .before .before .before .before .before .before .before .before .before .before .before .before .before .field .ensures .is) (c .before .before .before .before .before .before .before .before .before .before .before .before .declare-new-types .ensures) (c .before .before .before .before .before .before .mark .ensures) (c .before .before .declare-literal .ensures) refl
 

@@ -5,11 +5,9 @@ use Rattle.levels.proofs.marks.declared.Tie as tie
 use Rattle.levels.proofs.marks.declared.Reads as reads
 use Rattle.levels.proofs.marks.declared.Lts as lts
 
--- src/marks.rt:19:1
 returns : tie.Need-returns
 returns c = declared-none (c .if1 .taken)
 
--- src/marks.rt:19:1
 returns-2 : tie.Need-returns-2
 returns-2 c = declared-one _ (c .if1 .left)
 

@@ -15,35 +15,27 @@ Inv-loop levels n₀ i₀ n i = (i ≤ length levels) × Counted levels i n
 abbrev μ-loop : tie.MeasureT-loop
 μ-loop levels n₀ i₀ n i = length levels - i
 
--- src/marks.rt:31:5
 loop-holds : tie.Need-loop-holds Inv-loop μ-loop
 loop-holds c = (omega arith, counted-none _)
 
--- src/marks.rt:32:26
 shared-slice-read-declared : tie.Need-shared-slice-read-declared Inv-loop μ-loop
 shared-slice-read-declared c = search needs
 
--- src/marks.rt:32:17
 declared-requires : tie.Need-declared-requires Inv-loop μ-loop
 declared-requires c κs = search needs
 
--- src/marks.rt:32:13
 add-n : tie.Need-add-n Inv-loop μ-loop
 add-n c = omega (arith, counted-fits (c .before .before .before .loop .inv .1) (c .before .before .loop-test .taken) (c .declared .ensures))
 
--- src/marks.rt:33:9
 add-i : tie.Need-add-i Inv-loop μ-loop
 add-i c = search needs
 
--- src/marks.rt:31:5
 loop-less : tie.Need-loop-less Inv-loop μ-loop
 loop-less c = search needs
 
--- src/marks.rt:31:5
 loop-again : tie.Need-loop-again Inv-loop μ-loop
 loop-again c = (omega arith, counted-more (c .before .before .before .loop .inv .1) (c .before .before .loop-test .taken) (c .declared .ensures))
 
--- src/marks.rt:26:1
 returns : tie.Need-returns Inv-loop μ-loop
 returns c = counted-all (c .before .loop .inv .1) (omega arith)
 

@@ -5,23 +5,18 @@ use Rattle.levels.proofs.marks.mark.Tie as tie
 use Rattle.levels.proofs.marks.mark.Reads as reads
 use Rattle.levels.proofs.marks.mark.Lts as lts
 
--- src/marks.rt:13:8
 slice-read-if1 : tie.Need-slice-read-if1
 slice-read-if1 c = search needs
 
--- src/marks.rt:14:9
 slice-write-levels : tie.Need-slice-write-levels
 slice-write-levels c = search needs
 
--- src/marks.rt:9:1
 same-length : tie.Need-same-length
 same-length c = search needs
 
--- src/marks.rt:9:1
 returns : tie.Need-returns
 returns c = join-new _ _ _ (c .if1 .taken) (c .before .before .pre)
 
--- src/marks.rt:9:1
 returns-2 : tie.Need-returns-2
 returns-2 c = join-old _ _ _ (c .if1 .left)
 

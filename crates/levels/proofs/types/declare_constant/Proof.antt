@@ -13,35 +13,27 @@ use Rattle.levels.proofs.marks.mark.Reads as mark-reads
 use Rattle.levels.proofs.types.declare_new_types.Reads as declare-new-types-reads
 use Rattle.smt_engines.proofs.declare_constant.Reads as declare-constant-reads
 
--- src/types.rt:121:9
 field-requires : tie.Need-field-requires
 field-requires c κs = reads-constant (c .before .before .before .pre .0 .promise) 1 (omega arith) (c .before .before .before .pre .1)
 
--- src/types.rt:122:9
 declare-new-types-requires : tie.Need-declare-new-types-requires
 declare-new-types-requires c κs = (c .before .before .before .before .before .before .pre .0, rw (c .before .before .field .ensures .is) (c .before .before .before .before .before .before .pre .0 .promise .constant _ (c .before .before .before .before .before .before .pre .1) .typ))
 
--- src/types.rt:125:10
 add-mark : tie.Need-add-mark
 add-mark c = omega (arith, c .before .before .before .before .before .before .before .before .before .before .before .pre .1, c .before .before .before .before .before .before .before .before .before .before .before .pre .0 .promise .constants-laid .few)
 
--- src/types.rt:125:5
 mark-requires : tie.Need-mark-requires
 mark-requires c κs = omega (arith, c .before .before .before .before .before .before .before .before .before .before .before .before .pre .0 .wide, c .before .before .before .before .before .before .before .before .before .before .before .before .pre .1, c .before .before .before .before .before .before .before .before .before .before .before .before .pre .0 .promise .constants-laid .few, c .before .before .before .before .before .declare-new-types .kept .1 .1 .1 .0)
 
--- src/types.rt:126:9
 declare-constant-requires : tie.Need-declare-constant-requires
 declare-constant-requires c κs = (c .before .before .before .before .before .before .before .before .before .before .before .before .before .before .before .before .pre .0 .promise, c .before .before .before .before .before .before .before .before .before .before .before .before .before .before .before .before .pre .1)
 
--- src/types.rt:110:1
 same-length : tie.Need-same-length
 same-length c = search needs
 
--- src/types.rt:110:1
 same-length-2 : tie.Need-same-length-2
 same-length-2 c = search needs
 
--- src/types.rt:110:1
 returns : tie.Need-returns
 returns c = constant-is _ _ (c .before .before .before .before .before .before .before .before .before .before .before .before .before .before .before .before .before .before .before .good .1 .1 .1 .1 .1 .0 .0) (c .before .before .before .before .before .before .before .before .before .before .before .before .before .before .before .field .ensures .is) (c .before .before .before .before .before .before .before .before .before .before .before .before .declare-new-types .ensures) (c .before .before .before .before .before .before .mark .ensures) (c .before .before .declare-constant .ensures) refl
 

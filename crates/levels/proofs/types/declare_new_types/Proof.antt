@@ -7,23 +7,18 @@ use Rattle.levels.proofs.types.declare_new_types.Reads as reads
 use Rattle.levels.proofs.types.declare_new_types.Lts as lts
 use Rattle.levels.proofs.types.declare_type.Reads as declare-type-reads
 
--- src/types.rt:58:14
 declare-type-requires : tie.Need-declare-type-requires
 declare-type-requires c κs = (c .before .before .before .before .before .before .pre .0, omega (arith, c .before .before .before .before .before .before .pre .1))
 
--- src/types.rt:45:1
 returns : tie.Need-returns
 returns c = type-none _ _ (omega arith) (omega (arith, c .before .before .before .before .good .1 .1 .1 .1 .0))
 
--- src/types.rt:45:1
 same-length : tie.Need-same-length
 same-length c = search needs
 
--- src/types.rt:45:1
 same-length-2 : tie.Need-same-length-2
 same-length-2 c = search needs
 
--- src/types.rt:45:1
 returns-2 : tie.Need-returns-2
 returns-2 c = type-some _ _ (omega arith) (c .before .before .before .before .declare-type .ensures)
 

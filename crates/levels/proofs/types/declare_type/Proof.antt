@@ -9,31 +9,24 @@ use Rattle.levels.proofs.types.declare_type.Lts as lts
 use Rattle.levels.proofs.marks.mark.Reads as mark-reads
 use Rattle.smt_engines.proofs.declare_sort.Reads as declare-sort-reads
 
--- src/types.rt:33:8
 slice-read-if1 : tie.Need-slice-read-if1
 slice-read-if1 c = omega (arith, c .before .before .before .before .pre .0 .wide, c .before .before .before .before .pre .0 .promise .types-laid .few)
 
--- src/types.rt:34:9
 mark-requires : tie.Need-mark-requires
 mark-requires c κs = omega (arith, c .before .before .before .before .before .before .pre .0 .wide, c .before .before .before .before .before .before .pre .0 .promise .types-laid .few)
 
--- src/types.rt:37:13
 declare-sort-requires : tie.Need-declare-sort-requires
 declare-sort-requires c κs = (c .before .before .before .before .before .before .before .before .before .before .pre .0 .promise, c .before .before .before .before .before .before .before .before .before .before .pre .1)
 
--- src/types.rt:22:1
 same-length : tie.Need-same-length
 same-length c = search needs
 
--- src/types.rt:22:1
 same-length-2 : tie.Need-same-length-2
 same-length-2 c = search needs
 
--- src/types.rt:22:1
 returns : tie.Need-returns
 returns c = user-new _ _ (c .before .before .before .before .before .before .before .before .if1 .taken) (c .before .before .before .before .before .before .mark .ensures) (c .before .before .declare-sort .ensures) refl
 
--- src/types.rt:22:1
 returns-2 : tie.Need-returns-2
 returns-2 c = user-old _ _ (c .if1 .left) (omega (arith, c .before .before .before .before .before .good .1 .1 .1 .1 .0))
 
