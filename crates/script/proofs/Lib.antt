@@ -1,1 +1,2 @@
-pub mod Looping
+pub mod Places
+pub mod Testing

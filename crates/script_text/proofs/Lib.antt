@@ -1,3 +1,4 @@
+pub mod Again
 pub mod Telling
 pub mod Turning
 pub mod Cut

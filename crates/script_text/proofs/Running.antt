@@ -11,9 +11,9 @@ use Rattle.basics.specs.Text.{Text}
 use Rattle.book.specs.Book.{Book, word}
 use Rattle.solvers.specs.declared.Session.{Session}
 use Rattle.solvers.specs.Session.{freshSession}
-use Rattle.script_text.specs.declared.turns.Turn.{Turn}
+use Rattle.script_text.specs.declared.answers.Turn.{Turn}
 use Rattle.script_text.specs.Script.{numberSize, callSize, shape, Printed, turn, Ran, onward, runFor, run, isCut, bookOf, callsOf, lastSession}
-use Rattle.script_text.specs.Turned.{Turned}
+use Rattle.script_text.specs.Turned.{Turned, nextPlace}
 
 onward-same : (more : Bool) (t : Text) (s : Session) {f g : Session → Ran} → ((u : Session) → f u ≡ g u) → onward more t s f ≡ onward more t s g
 unfolding onward
@@ -34,7 +34,7 @@ enough b (suc m) (suc n) (c ∷ cs) s h k =
     onward-same (p .more) (p .text) (p .session) λ u. enough b m n (drop callSize (c ∷ cs)) u (omega (arith, length-drop callSize (c ∷ cs))) (omega (arith, length-drop callSize (c ∷ cs)))
 
 -- the last session of what is left
-unfoldable pub lastOf : (more : Bool) → Book → List ℕ → Session → Session
+unfoldable lastOf : (more : Bool) → Book → List ℕ → Session → Session
 lastOf false b cs s = s
 lastOf true b cs s = run b cs s .session
 
@@ -57,18 +57,34 @@ drop-drop zero k l = ap (λ (j : ℕ). drop j l) (sym (zero-add k))
 drop-drop (suc n) k [] = drop-of-length-le {A = ℕ} [] {i = k} (omega arith) ∙ sym (drop-of-length-le {A = ℕ} [] {i = suc n + k} (omega arith))
 drop-drop (suc n) k (x ∷ l) = drop-drop n k l ∙ ap (λ (j : ℕ). drop j (x ∷ l)) (sym (suc-add n k))
 
--- one turn of the loop
-pub turned-on : (b : Book) (calls : List ℕ) (at : ℕ) (s : Session) {r : Turn} {t c : List ℕ} → at < length calls → Turned (turn b s (shape (drop at calls))) r t c
-    → lastOf true b (drop at calls) s ≡ lastOf (r .more) b (drop (at + callSize) calls) (r .session)
-unfolding lastOf
-turned-on b calls at s {r} h x =
-    run-step b (drop at calls) s (omega (arith, length-drop at calls))
-    ∙ λ i. lastOf (sym (x .more) i) b (drop-drop at callSize calls i) (sym (x .session) i)
+none-left : (b : Book) (s : Session) → run b [] s .session ≡ s
+unfolding run runFor
+none-left b s = refl
 
-pub lastOf-none : (more : Bool) (b : Book) (s : Session) → lastOf more b [] s ≡ s
-unfolding lastOf run runFor
-lastOf-none false b s = refl
-lastOf-none true b s = refl
+module _ (b : Book) (calls : List ℕ) where
+  -- nothing is left to run at the end
+  pub ended : (at : ℕ) (s : Session) → length calls ≤ at → run b (drop at calls) s .session ≡ s
+  ended at s h = ap (λ (cs : List ℕ). run b cs s .session) (drop-of-length-le calls {i = at} h) ∙ none-left b s
+
+  left-at : (more : Bool) (at : ℕ) (s : Session) → lastOf more b (drop (at + callSize) calls) s ≡ run b (drop (nextPlace more at (length calls)) calls) s .session
+  unfolding lastOf nextPlace
+  left-at true at s = refl
+  left-at false at s = sym (ended (length calls) s (omega arith))
+
+  -- one turn: what is left to run ends in the same session
+  pub goes-on : (at : ℕ) (s : Session) {r : Turn} {s' : Session} {t c : List ℕ} {k : ℕ} → at < length calls → Turned (turn b s (shape (drop at calls))) r s' t c
+      → k ≡ nextPlace (r .more) at (length calls) → run b (drop k calls) s' .session ≡ run b (drop at calls) s .session
+  goes-on at s {r} {s'} h x e =
+      ap (λ (n : ℕ). run b (drop n calls) s' .session) e ∙ sym (left-at (r .more) at s')
+      ∙ (λ i. lastOf (x .more i) b (sym (drop-drop at callSize calls) i) (x .session i)) ∙ sym (run-step b (drop at calls) s (omega (arith, length-drop at calls)))
+
+  moves-on : (more : Bool) (at : ℕ) → at < length calls → at < nextPlace more at (length calls)
+  unfolding nextPlace
+  moves-on true at h = omega arith
+  moves-on false at h = h
+
+  pub further : (more : Bool) {at k : ℕ} → at < length calls → k ≡ nextPlace more at (length calls) → at < k
+  further more {at} h e = omega (arith, moves-on more at h, e)
 
 -- the front of the input
 module _ (input : List ℕ) where

@@ -10,9 +10,10 @@ use lib.Seq.{getD-drop}
 use borrow.Author.Tests.{lt-ltb, le-ltb, eq-eqb, ne-eqb}
 use Rattle.book.specs.Book.{Book, word}
 use Rattle.solvers.specs.declared.Session.{Session}
-use Rattle.script_text.specs.declared.turns.Turn.{Turn}
+use Rattle.script_text.specs.declared.answers.Turn.{Turn}
+use Rattle.script_text.specs.declared.reading.Wanted.{Wanted}
 use Rattle.script_text.specs.Script.{callSize, Shape, moving, asking, stopping, shapeOf, shape, Printed, turn}
-use Rattle.script_text.specs.Turned.{Turned}
+use Rattle.script_text.specs.Turned.{Shows, Turned, wants}
 
 byte-at : (calls : List ℕ) (at i n : ℕ) → n ≡ at + i → getD (drop at calls) i 0 ≡ getD calls n 0
 byte-at calls at i n e = getD-drop at calls i 0 ∙ ap (λ (k : ℕ). getD calls k 0) (sym e)
@@ -55,7 +56,7 @@ module _ (calls : List ℕ) (at : ℕ) where
     is-move e e0 = whole ∙ rw (e, e0)
 
 -- a turn that leaves the closing buffer alone
-pub widened : {p : Printed} {r : Turn} {t : List ℕ} (closing : List ℕ) → Turned p r t [] → Turned p r t closing
+pub widened : {p : Printed} {r : Turn} {s : Session} {t : List ℕ} (closing : List ℕ) → Turned p r s t [] → Turned p r s t closing
 widened {r = r} {t = t} closing x =
     let none : r .closed ≡ 0 = omega (arith, x .closing-fits) in
     let same : take (r .closed) closing ≡ take (r .closed) [] = rw none in
@@ -67,10 +68,19 @@ widened {r = r} {t = t} closing x =
       more = x .more;
     }
 
-module _ (b : Book) (s : Session) {r : Turn} {t closing : List ℕ} where
-  pub by-shape : {f g : Shape} → g ≡ f → Turned (turn b s f) r t closing → Turned (turn b s g) r t closing
-  by-shape e x = rw e x
+-- what has been read, by its flags
+module _ (w : Wanted) where
+  pub wants-stop : w .stops ≡ true → wants w ≡ stopping
+  unfolding wants
+  wants-stop e = rw e
 
-  pub stops : {g : Shape} → g ≡ stopping → Turned (turn [] s stopping) r t [] → Turned (turn b s g) r t closing
-  unfolding turn
-  stops e x = rw e (widened closing x)
+  pub wants-ask : w .stops ≡ false → w .asks ≡ true → wants w ≡ asking (w .node) (w .term)
+  unfolding wants
+  wants-ask e f = rw (e, f)
+
+  pub wants-move : w .stops ≡ false → w .asks ≡ false → wants w ≡ moving (w .node)
+  unfolding wants
+  wants-move e f = rw (e, f)
+
+pub by-shape : (b : Book) (s : Session) {r : Turn} {s' : Session} {t closing : List ℕ} {f g : Shape} → g ≡ f → Turned (turn b s f) r s' t closing → Turned (turn b s g) r s' t closing
+by-shape b s e x = rw e x

@@ -9,6 +9,7 @@ use Rattle.basics.specs.Text.{Text, ascii}
 use Rattle.basics.specs.Outcome.{Outcome, refused, accepted, refuse, _>>_, mapOutcome}
 use Rattle.basics.specs.Buffer.{bufferAfter, scratchLeast}
 use Rattle.book.specs.Book.{Book}
+use Rattle.solvers.specs.declared.Answer.{Answer}
 use Rattle.solvers.specs.declared.Called.{Called}
 use Rattle.solvers.specs.declared.Session.{Session}
 use Rattle.solvers.specs.Session.{Written, textOf}
@@ -16,9 +17,10 @@ use Rattle.solvers.specs.Calls.{Host, fitting, Call, moveTo, askFor, replyWith,
 use Rattle.solvers.specs.Left.{Values, answerValue, values, sessionAfter, left, called}
 use Rattle.solvers.specs.Returned.{lent, Returned}
 use Rattle.solvers.proofs.HostRun.{call-fits}
-use Rattle.script_text.specs.declared.turns.Turn.{Turn}
+use Rattle.script_text.specs.declared.answers.Asked.{Asked}
+use Rattle.script_text.specs.declared.answers.Turn.{Turn}
 use Rattle.script_text.specs.Script.{textSize, stopped, stopping, moving, asking, desk, told, Printed, reply, answered, turn}
-use Rattle.script_text.specs.Turned.{Desk, Shows, Tells, isRefused, Turned}
+use Rattle.script_text.specs.Turned.{Desk, Shows, Tells, isRefused, Turned, Closes}
 use Rattle.script_text.proofs.Telling.{told-shows}
 
 -- ---- a call hangs only on the lengths of what it is lent
@@ -60,56 +62,72 @@ did b s c {t1 = t1} {t2 = t2} {n = n} e r x =
     let y : Tells (mapOutcome values (call b s c)) n t1 t2 = rw (r .answer) at x in
     rw (← e) (record { answer = r .answer; session = r .session; shows = told-shows (hostOf c) (call b s c) (call-fits b s c) (r .text′) y })
 
-alone : {t : Text} {n : ℕ} {buffer : List ℕ} (closing : List ℕ) → Shows t n buffer → take n buffer ++ take 0 closing ≡ t
-alone closing x = append-nil _ ∙ x .shown
+shows-at : {t : Text} {n m : ℕ} {buffer : List ℕ} → m ≡ n → Shows t n buffer → Shows t m buffer
+shows-at e x = rw e x
 
-pub stop-turned : (b : Book) (s : Session) {n : ℕ} {t : List ℕ} (closing : List ℕ) → Shows stopped n t → Turned (turn b s stopping) (record { written = n; closed = 0; more = false; session = s }) t closing
+-- a turn of one text
+module _ {r : Turn} {p : Printed} {t : List ℕ} (closing : List ℕ) where
+  alone : {s : Session} → r .closed ≡ 0 → Shows (p .text) (r .written) t → s ≡ p .session → r .more ≡ p .more → Turned p r s t closing
+  alone e x es em = record {
+    printed = ap {B = List ℕ} (λ (k : ℕ). take (r .written) t ++ take k closing) e ∙ append-nil _ ∙ x .shown;
+    text-fits = x .fits;
+    closing-fits = omega (arith, e);
+    session = es;
+    more = em;
+  }
+
+pub stop-turned : (b : Book) (s : Session) {r : Turn} {t : List ℕ} (closing : List ℕ) → Shows stopped (r .written) t × (r .closed ≡ 0) × (r .more ≡ false) → Turned (turn b s stopping) r s t closing
 unfolding turn
-stop-turned b s closing x = record { printed = alone closing x; text-fits = x .fits; closing-fits = omega arith; session = refl; more = refl }
+stop-turned b s closing x = alone closing (x .1) (x .0) refl (x .2)
 
-module _ (b : Book) (s : Session) {sc tx : List ℕ} (d : Desk sc tx) where
-  pub move-turned : (node : ℕ) {r : Called} {t1 e1 sc1 t2 : List ℕ} {n : ℕ} (closing : List ℕ) → Returned (called b s (moveTo (lent sc tx []) node)) r t1 e1 sc1
-      → Tells (answerValue (r .answer)) n t1 t2 → Turned (turn b s (moving node)) (record { written = n; closed = 0; more = true; session = r .session }) t2 closing
+module _ (b : Book) (s : Session) {sc tx : List ℕ} (d : Desk sc tx) {a : Answer} {l : Session} {t1 e1 sc1 t2 : List ℕ} {r : Turn} where
+  pub move-turned : (node : ℕ) (closing : List ℕ) → Returned (called b s (moveTo (lent sc tx []) node)) (record { answer = a; session = l }) t1 e1 sc1
+      → Tells (answerValue a) (r .written) t1 t2 × (r .closed ≡ 0) × (r .more ≡ true) → Turned (turn b s (moving node)) r l t2 closing
   unfolding turn
-  move-turned node closing r x =
-      let y = did b s (moveTo (lent sc tx []) node) (same-move b s (lent sc tx []) desk (on-desk sc tx (d .scratch-length) (d .text-length)) node) r x in
-      record { printed = alone closing (y .shows); text-fits = y .shows .fits; closing-fits = omega arith; session = y .session; more = refl }
+  move-turned node closing q x =
+      let y = did b s (moveTo (lent sc tx []) node) (same-move b s (lent sc tx []) desk (on-desk sc tx (d .scratch-length) (d .text-length)) node) q (x .0) in
+      alone closing (x .1) (y .shows) (y .session) (x .2)
+
+  pub reply-closes : (n : ℕ) → Returned (called b s (replyWith (lent sc tx []) true (ascii "unsat"))) (record { answer = a; session = l }) t1 e1 sc1
+      → Tells (answerValue a) (r .closed) t1 t2 × (r .written ≡ n) × (r .more ≡ true) → Closes b s n r l t2
+  unfolding reply
+  reply-closes n q x =
+      let e = same-reply b s (lent sc tx []) desk (on-desk sc tx (d .scratch-length) (d .text-length)) true (ascii "unsat") in
+      let y = did b s (replyWith (lent sc tx []) true (ascii "unsat")) e q (x .0) in
+      record { written = x .1; closes = y .shows; session = y .session; more = x .2 }
 
 -- ---- an ask, and the reply to it
-refused-turned : (b : Book) (s : Session) (o : Outcome Written) {v : Outcome Values} {l : Session} {n : ℕ} {t : List ℕ} (closing : List ℕ) → Did o s v l n t → isRefused v ≡ true
-    → Turned (answered b s o) (record { written = n; closed = 0; more = true; session = l }) t closing
+refused-turned : (b : Book) (s : Session) (o : Outcome Written) {v : Outcome Values} {l : Session} {n : ℕ} {t : List ℕ} {r : Turn} (closing : List ℕ) → Did o s v l n t → isRefused v ≡ true
+    → (r .written ≡ n) × (r .closed ≡ 0) × (r .more ≡ true) → Turned (answered b s o) r l t closing
 unfolding answered told sessionAfter isRefused mapOutcome
-refused-turned b s (refused k) closing y e = record { printed = alone closing (y .shows); text-fits = y .shows .fits; closing-fits = omega arith; session = y .session; more = refl }
-refused-turned b s (accepted w) closing y e = absurd (true≢false (sym e ∙ ap isRefused (y .answer)))
+refused-turned b s (refused k) closing y e x = alone closing (x .1) (shows-at (x .0) (y .shows)) (y .session) (x .2)
+refused-turned b s (accepted w) closing y e x = absurd (true≢false (sym e ∙ ap isRefused (y .answer)))
 
-accepted-turned : (b : Book) (s : Session) (o : Outcome Written) {v v2 : Outcome Values} {l l2 : Session} {n m : ℕ} {t c : List ℕ} → Did o s v l n t → isRefused v ≡ false
-    → Did (reply b l) l v2 l2 m c → Turned (answered b s o) (record { written = n; closed = m; more = true; session = l2 }) t c
+accepted-turned : (b : Book) (s : Session) (o : Outcome Written) {v : Outcome Values} {l l2 : Session} {n : ℕ} {t c : List ℕ} {r : Turn} → Did o s v l n t → isRefused v ≡ false
+    → Closes b l n r l2 c → Turned (answered b s o) r l2 t c
 unfolding answered told sessionAfter isRefused mapOutcome
 accepted-turned b s (refused k) y e z = absurd (true≢false (ap isRefused (sym (y .answer)) ∙ e))
-accepted-turned b s (accepted w) {v2 = v2} {l2 = l2} {m = m} {c = c} y e z =
-    let x : Did (reply b (w .session)) (w .session) v2 l2 m c = rw (y .session) at z in
+accepted-turned b s (accepted w) {l2 = l2} {n = n} {c = c} {r = r} y e z =
+    let x : Closes b (w .session) n r l2 c = rw (y .session) at z in
+    let f : Shows (textOf w) (r .written) _ = shows-at (x .written) (y .shows) in
     record {
-      printed = rw (y .shows .shown, x .shows .shown);
-      text-fits = y .shows .fits;
-      closing-fits = x .shows .fits;
+      printed = rw (f .shown, x .closes .shown);
+      text-fits = f .fits;
+      closing-fits = x .closes .fits;
       session = x .session;
-      more = refl;
+      more = x .more;
     }
 
-module _ (b : Book) (s : Session) (node term : ℕ) {sc tx : List ℕ} (d : Desk sc tx) {r : Called} {t1 e1 sc1 t2 : List ℕ} {n : ℕ}
-    (q : Returned (called b s (askFor (lent sc tx []) node term)) r t1 e1 sc1) (x : Tells (answerValue (r .answer)) n t1 t2) where
-  asked : Did (call b s (askFor desk node term)) s (answerValue (r .answer)) (r .session) n t2
-  asked = did b s (askFor (lent sc tx []) node term) (same-ask b s (lent sc tx []) desk (on-desk sc tx (d .scratch-length) (d .text-length)) node term) q x
+module _ (b : Book) (s : Session) (node term : ℕ) {sc tx : List ℕ} (d : Desk sc tx) {a : Answer} {l : Session} {t1 e1 sc1 t2 : List ℕ} {k : Asked}
+    (q : Returned (called b s (askFor (lent sc tx []) node term)) (record { answer = a; session = l }) t1 e1 sc1)
+    (x : Tells (answerValue a) (k .written) t1 t2 × (k .refused ≡ isRefused (answerValue a))) where
+  asked : Did (call b s (askFor desk node term)) s (answerValue a) l (k .written) t2
+  asked = did b s (askFor (lent sc tx []) node term) (same-ask b s (lent sc tx []) desk (on-desk sc tx (d .scratch-length) (d .text-length)) node term) q (x .0)
 
-  pub ask-refused : (closing : List ℕ) → isRefused (answerValue (r .answer)) ≡ true
-      → Turned (turn b s (asking node term)) (record { written = n; closed = 0; more = true; session = r .session }) t2 closing
+  pub ask-refused : (closing : List ℕ) {r : Turn} → k .refused ≡ true → (r .written ≡ k .written) × (r .closed ≡ 0) × (r .more ≡ true) → Turned (turn b s (asking node term)) r l t2 closing
   unfolding turn
-  ask-refused closing e = refused-turned b s (call b s (askFor desk node term)) closing asked e
+  ask-refused closing e y = refused-turned b s (call b s (askFor desk node term)) closing asked (sym (x .1) ∙ e) y
 
-  pub ask-replied : (sc2 cl : List ℕ) {e2 sc3 c1 c2 : List ℕ} {r2 : Called} {m : ℕ} → isRefused (answerValue (r .answer)) ≡ false → length sc2 ≡ scratchLeast → length cl ≡ textSize
-      → Returned (called b (r .session) (replyWith (lent sc2 cl []) true (ascii "unsat"))) r2 c1 e2 sc3 → Tells (answerValue (r2 .answer)) m c1 c2
-      → Turned (turn b s (asking node term)) (record { written = n; closed = m; more = true; session = r2 .session }) t2 c2
-  unfolding turn reply
-  ask-replied sc2 cl e hs hc q2 x2 =
-      accepted-turned b s (call b s (askFor desk node term)) asked e
-      (did b (r .session) (replyWith (lent sc2 cl []) true (ascii "unsat")) (same-reply b (r .session) (lent sc2 cl []) desk (on-desk sc2 cl hs hc) true (ascii "unsat")) q2 x2)
+  pub ask-replied : {l2 : Session} {c2 : List ℕ} {r : Turn} → k .refused ≡ false → Closes b l (k .written) r l2 c2 → Turned (turn b s (asking node term)) r l2 t2 c2
+  unfolding turn
+  ask-replied e z = accepted-turned b s (call b s (askFor desk node term)) asked (sym (x .1) ∙ e) z

@@ -1,77 +1,53 @@
-// One call of the input, whole: the session is lent to the call, and unsat is replied to an accepted ask.
+// One call of the input, whole, on the program's session: the session is lent to the call, and unsat is replied to an accepted ask.
+// What has the session behind a reference is proved by a walk of its MIR, so all that can be is split off it, into `answers` and `reading`.
 ghost use mathlib.Core.Path.{_≡_};
 ghost use mathlib.Core.List.{[]};
-ghost use Prim.Native.Nat.{_+_, _≤_};
+ghost use Prim.Native.Nat.{_≤_};
 ghost use lib.ListN.{length, drop};
-ghost use Rattle.script_text.specs.Script.{textSize, moving, asking, stopping, shape, turn};
-ghost use Rattle.script_text.specs.Turned.{Desk, Turned};
-ghost use Rattle.book.specs.Book.{word};
-use super::lines::is_refused;
-use super::lines::put_stopped;
-use super::lines::tell;
-use super::opening::NUMBER;
-use book::word;
-use lent_sessions::lend_ask;
-use lent_sessions::lend_move;
-use lent_sessions::lend_reply;
+ghost use Rattle.script_text.specs.Script.{textSize, moving, asking, shape, turn};
+ghost use Rattle.script_text.specs.Turned.{Desk, Turned, Closes};
+use super::answers::Turn;
+use super::answers::alone;
+use super::answers::ask_told;
+use super::answers::move_told;
+use super::answers::reply_told;
+use super::answers::stop_told;
+use super::reading::read_call;
+use lent_sessions::ask_mut;
+use lent_sessions::move_mut;
+use lent_sessions::reply_mut;
 use solvers::Session;
 
-// Bytes of a call: kind, node, term.
-pub const CALL: usize = 3 * NUMBER;
+// What is replied to an accepted ask.
+const UNSAT: [u8; 5] = *b"unsat";
 
-// The kinds of a call, and the term that a move carries.
-const MOVE: u32 = 1;
-
-const ASK: u32 = 2;
-
-const NO_TERM: u32 = 0;
-
-// What is printed stands at the front of the text buffer, and then of the closing one.
-pub struct Turn {
-    pub written: usize,
-    pub closed: usize,
-    pub more: bool,
-    pub session: Session,
-}
-
-fn number(calls: &[u8], at: usize) -> u32
-    requires { ⌜ at + 4 ≤ length (now calls) ⌝ }
-    ensures { λ r. ⌜ r ≡ word (now (calls .entry)) at ⌝ }
-{
-    word(calls, at) as u32
-}
-
-fn stop_turn(session: Session, text: &mut [u8]) -> Turn
-    requires { ⌜ length (now text) ≡ textSize ⌝ }
-    ensures { λ r. ⌜ Turned (turn [] session stopping) r (now (text .exit)) [] ⌝ }
-{
-    let n = put_stopped(text);
-    Turn {
-        written: n,
-        closed: 0,
-        more: false,
-        session: session,
-    }
-}
-
-fn move_turn(session: Session, book: &[u8], scratch: &mut [u8], node: u32, text: &mut [u8]) -> Turn
+fn move_turn(s: &mut Session, book: &[u8], scratch: &mut [u8], node: u32, text: &mut [u8]) -> Turn
     requires { ⌜ Desk (now scratch) (now text) ⌝ }
-    ensures { λ r. ⌜ Turned (turn (now (book .entry)) session (moving node)) r (now (text .exit)) [] ⌝ }
+    ensures { λ r. ⌜ Turned (turn (now (book .entry)) (now (s .entry)) (moving node)) r (now (s .exit)) (now (text .exit)) [] ⌝ }
 {
-    let called = lend_move(session, book, scratch, node, text);
-    let answer = called.answer;
-    let n = tell(answer, text);
-    let left = called.session;
-    Turn {
-        written: n,
-        closed: 0,
-        more: true,
-        session: left,
-    }
+    let answer = move_mut(s, book, scratch, node, text);
+    move_told(answer, text)
+}
+
+// The reply to an ask that has written so many bytes.
+fn reply_turn(
+    s: &mut Session,
+    book: &[u8],
+    scratch: &mut [u8],
+    written: usize,
+    closing: &mut [u8],
+) -> Turn
+    requires { ⌜ Desk (now scratch) (now closing) ⌝ }
+    ensures { λ r. ⌜ Closes (now (book .entry)) (now (s .entry)) written r (now (s .exit)) (now (closing .exit)) ⌝ }
+{
+    let word = UNSAT;
+    let mut nowhere = [0; 0];
+    let answer = reply_mut(s, book, scratch, true, &word, closing, &mut nowhere);
+    reply_told(answer, written, closing)
 }
 
 fn ask_turn(
-    session: Session,
+    s: &mut Session,
     book: &[u8],
     scratch: &mut [u8],
     node: u32,
@@ -80,36 +56,19 @@ fn ask_turn(
     closing: &mut [u8],
 ) -> Turn
     requires { ⌜ Desk (now scratch) (now text) × (length (now closing) ≡ textSize) ⌝ }
-    ensures { λ r. ⌜ Turned (turn (now (book .entry)) session (asking node term)) r (now (text .exit)) (now (closing .exit)) ⌝ }
+    ensures { λ r. ⌜ Turned (turn (now (book .entry)) (now (s .entry)) (asking node term)) r (now (s .exit)) (now (text .exit)) (now (closing .exit)) ⌝ }
 {
-    let called = lend_ask(session, book, scratch, node, term, text);
-    let answer = called.answer;
-    let asked = called.session;
-    let n = tell(answer, text);
-    if is_refused(answer) {
-        return Turn {
-            written: n,
-            closed: 0,
-            more: true,
-            session: asked,
-        };
+    let answer = ask_mut(s, book, scratch, node, term, text);
+    let told = ask_told(answer, text);
+    if told.refused {
+        return alone(told.written);
     }
-    let mut nowhere = [0; 0];
-    let replied = lend_reply(asked, book, scratch, true, b"unsat", closing, &mut nowhere);
-    let end = replied.answer;
-    let m = tell(end, closing);
-    let left = replied.session;
-    Turn {
-        written: n,
-        closed: m,
-        more: true,
-        session: left,
-    }
+    reply_turn(s, book, scratch, told.written, closing)
 }
 
 // The call that stands at `at`.
 pub fn call_turn(
-    session: Session,
+    s: &mut Session,
     book: &[u8],
     calls: &[u8],
     at: usize,
@@ -118,22 +77,14 @@ pub fn call_turn(
     closing: &mut [u8],
 ) -> Turn
     requires { ⌜ (at ≤ length (now calls)) × Desk (now scratch) (now text) × (length (now closing) ≡ textSize) ⌝ }
-    ensures { λ r. ⌜ Turned (turn (now (book .entry)) session (shape (drop at (now (calls .entry))))) r (now (text .exit)) (now (closing .exit)) ⌝ }
+    ensures { λ r. ⌜ Turned (turn (now (book .entry)) (now (s .entry)) (shape (drop at (now (calls .entry))))) r (now (s .exit)) (now (text .exit)) (now (closing .exit)) ⌝ }
 {
-    if calls.len() - at < CALL {
-        return stop_turn(session, text);
+    let call = read_call(calls, at);
+    if call.stops {
+        return stop_told(text);
     }
-    let kind = number(calls, at);
-    let node = number(calls, at + NUMBER);
-    let term = number(calls, at + 2 * NUMBER);
-    if kind == ASK {
-        return ask_turn(session, book, scratch, node, term, text, closing);
+    if call.asks {
+        return ask_turn(s, book, scratch, call.node, call.term, text, closing);
     }
-    if kind != MOVE {
-        return stop_turn(session, text);
-    }
-    if term != NO_TERM {
-        return stop_turn(session, text);
-    }
-    move_turn(session, book, scratch, node, text)
+    move_turn(s, book, scratch, call.node, text)
 }
