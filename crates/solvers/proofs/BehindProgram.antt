@@ -2,15 +2,17 @@
 -- any two forms of the state.
 use Prim.Native.Nat.{ℕ, zero, suc, _-_, _≤_, _<_}
 use native.Mathlib.Omega.{arith}
-use mathlib.Core.Path.{_≡_, refl, sym, ap, _∙_, subst}
-use mathlib.Core.List.{List, _∷_}
+use mathlib.Core.Path.{_≡_, refl, sym, ap, ap₂, _∙_, subst}
+use mathlib.Core.List.{List, _∷_, _++_}
 use lib.Dec.{ltb}
 use lib.ListN.{length, length-append, List·getD-append}
 use borrow.Author.Tests.{ltb-false}
+use Rattle.basics.specs.Text.{Text}
 use Rattle.book.specs.Program.{Program, Context, nodeAt, pathUp, path, depth}
 use Rattle.rsolver.specs.Step.{_⨟_}
 use Rattle.rsolver.specs.Methods.{Marker, Methods}
 use Rattle.rsolver.specs.REngine.{enter, adjustContext, popTimes, setContext}
+use Rattle.rsolver.specs.Trace.{traceLine, traceOf, printTrace}
 use Rattle.rsolver.proofs.Related.{Keeps, skip-k, then-k, unless-r, either-k, SameAxioms}
 use Rattle.solvers.specs.Fallbacks.{Anything, programOr}
 use Rattle.solvers.proofs.Good.{Good}
@@ -58,6 +60,18 @@ module _ (x : Anything) where
       depth-same : (n : ℕ) → n ≤ length (p .contexts) → depth (programOr x p) n ≡ depth p n
       unfolding depth path
       depth-same n l = ap length (up-same n n l)
+
+      trace-up : (f n : ℕ) → n ≤ length (p .contexts) → traceOf (programOr x p) (pathUp p f n) ≡ traceOf p (pathUp p f n)
+      unfolding pathUp traceOf
+      trace-up zero n l = refl
+      trace-up (suc f) zero l = refl
+      trace-up (suc f) (suc n) l =
+          ap₂ (λ (text : Text) (c : Context). text ++ traceLine (c .traceString)) (trace-up f (nodeAt p (suc n) .parent) (omega (arith, G .parents n)))
+          (node-same (suc n) (omega arith) l)
+
+      pub trace-same : (n : ℕ) → n ≤ length (p .contexts) → printTrace (programOr x p) n ≡ printTrace p n
+      unfolding printTrace path
+      trace-same n l = ap (traceOf (programOr x p)) (up-same n n l) ∙ trace-up n n l
 
       -- a node of some depth is no root, and its parent has one less
       deeper : (d n : ℕ) → suc d ≡ depth p n → (0 < n) × (nodeAt p n .parent ≤ n) × (d ≡ depth p (nodeAt p n .parent))

@@ -28,6 +28,7 @@ use Rattle.solvers.proofs.Shared.{deepest-shared}
 use Rattle.solvers.proofs.PlacedBook.{bounded, term-known}
 use Rattle.solvers.proofs.Enough.{levels-length, enough, bodies-enough}
 use Rattle.solvers.proofs.BehindBook.{term-same, program-same}
+use Rattle.solvers.proofs.BehindProgram.{trace-same}
 use Rattle.solvers.proofs.BehindLevels.{move-same, goal-same}
 use Rattle.solvers.proofs.BehindBodies.{body-move, body-goal}
 use Rattle.solvers.proofs.HostRun.{host-run}
@@ -99,6 +100,7 @@ no-fallback b ok =
       bodyWalks = bodies-enough (program b);
       moves = λ x n l. move-same x B G n (omega (arith, contexts-length b));
       goals = λ x t h. goal-same x B (term b t) (term-known b P t h);
+      traces = λ x n l. trace-same x (program b) G n (omega (arith, contexts-length b));
       bodyMoves = λ x n l. body-move x B G n (omega (arith, contexts-length b));
       bodyGoals = λ x t h. body-goal x B (term b t) (term-known b P t h);
     }

@@ -18,6 +18,7 @@ use Rattle.rsolver.specs.Step.{Step}
 use Rattle.rsolver.specs.LevelState.{LevelState, levelCount, levelled, push}
 use Rattle.rsolver.specs.SolverState.{SolverState, bodies, Valid}
 use Rattle.rsolver.specs.REngine.{declareNewSymbols, setContext}
+use Rattle.rsolver.specs.Trace.{printTrace}
 use Rattle.solvers.specs.declared.Owed.the-variants.{Nothing}
 use Rattle.solvers.specs.Session.{Written, textOf}
 use Rattle.solvers.specs.Calls.{Host, Call, moveTo, call}
@@ -97,7 +98,8 @@ pub record NoFallback (b : Book) : Type 0 where
   -- more fuel changes no walk: neither in such a state, inside a level, nor in any state of the bodies
   pub walks : (n : ℕ) (s : LevelState) → length (s .levels) ≡ levelCount → FuelEnough (levelled (program b)) (program b) (push n s)
   pub bodyWalks : (s : SolverState) → FuelEnough bodies (program b) s
-  -- with anything behind the levels, the axioms and the contexts, a move to any node and the declarations of any goal are the same
+  -- with anything behind the levels, the axioms and the contexts, a move to any node, the declarations of any goal and a node's trace are
+  -- the same
   pub moves :
       (x : Anything) (n : ℕ) → n ≤ size b contexts → (s : LevelState) → length (s .levels) ≡ levelCount
       → setContext (levelledOr x (program b)) (programOr x (program b)) n s ≡ setContext (levelled (program b)) (program b) n s
@@ -105,7 +107,8 @@ pub record NoFallback (b : Book) : Type 0 where
       (x : Anything) (t : ℕ) → t < size b terms → (n : ℕ) (s : LevelState) → length (s .levels) ≡ levelCount
       → declareNewSymbols (levelledOr x (program b)) (programOr x (program b)) (term b t) (push n s)
       ≡ declareNewSymbols (levelled (program b)) (program b) (term b t) (push n s)
-  -- and so are the bodies', from any state
+  pub traces : (x : Anything) (n : ℕ) → n ≤ size b contexts → printTrace (programOr x (program b)) n ≡ printTrace (program b) n
+  -- and so are the bodies' moves and declarations, from any state
   pub bodyMoves :
       (x : Anything) (n : ℕ) → n ≤ size b contexts → (s : SolverState)
       → setContext bodies (programOr x (program b)) n s ≡ setContext bodies (program b) n s
