@@ -79,3 +79,19 @@ pub fn axiom_chain() -> Maker {
     m.context(0, first);
     m
 }
+
+/// A function whose axiom applies it inside a nest of all terms. As a goal that
+/// nest is walked twice at once: the function in it sends the axiom.
+pub fn own_axiom() -> Maker {
+    let mut m = Maker::default();
+    let not = m.name("not");
+    let f = m.function("f", &[], INT);
+    let mut term = m.apply(f, &[]);
+    while m.terms.len() < Section::Terms.most() {
+        let [start, args] = m.list(&[term]);
+        term = m.term(kind::BUILT_IN, [not, start, args]);
+    }
+    let axiom = m.axiom(Some(term), &[f]);
+    m.explained_by(f, &[axiom]);
+    m
+}

@@ -1,6 +1,7 @@
 //! Program script, as it was built, against the reference: what it prints for
 //! its standard input.
 
+use crate::made_sessions::own_axiom;
 use crate::made_terms::nests;
 use crate::tally::{Met, Tally};
 use leskofar_reference::book::INT;
@@ -190,7 +191,8 @@ pub fn run(tally: &mut Tally) {
     });
     tally.group("script, the deepest terms", || {
         let mut met = Met::default();
-        for (_, maker) in nests() {
+        let nests = nests().into_iter().map(|(_, maker)| maker);
+        for maker in nests.chain([own_axiom()]) {
             let goal = maker.terms.len() as u32 - 1;
             compare(&input(&maker.book(), &[[ASK, 0, goal]]), &mut met)?;
         }
