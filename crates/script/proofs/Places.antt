@@ -1,6 +1,6 @@
 -- The place of the next call, by the turn's flag.
 use Prim.Native.Nat.{ℕ, _+_}
-use mathlib.Core.Path.{_≡_, refl}
+use mathlib.Core.Path.{_≡_}
 use mathlib.Core.Bool.{Bool, true, false}
 use Rattle.script_text.specs.Script.{callSize}
 use Rattle.script_text.specs.Turned.{nextPlace}

@@ -12,7 +12,7 @@ use Rattle.book.specs.Book.{Book, word}
 use Rattle.solvers.specs.declared.Session.{Session}
 use Rattle.solvers.specs.Session.{freshSession}
 use Rattle.script_text.specs.declared.answers.Turn.{Turn}
-use Rattle.script_text.specs.Script.{numberSize, callSize, shape, Printed, turn, Ran, onward, runFor, run, isCut, bookOf, callsOf, lastSession}
+use Rattle.script_text.specs.Script.{numberSize, callSize, shape, turn, Ran, onward, runFor, run, isCut, bookOf, callsOf, lastSession}
 use Rattle.script_text.specs.Turned.{Turned, nextPlace}
 
 onward-same : (more : Bool) (t : Text) (s : Session) {f g : Session → Ran} → ((u : Session) → f u ≡ g u) → onward more t s f ≡ onward more t s g

@@ -2,18 +2,17 @@
 use Prim.Native.Nat.{ℕ, _+_, _-_, _<_, _≤_}
 use native.Mathlib.Omega.{arith}
 use mathlib.Core.Path.{_≡_, refl, ap, sym, _∙_}
-use mathlib.Core.Bool.{Bool, true, false}
+use mathlib.Core.Bool.{true, false}
 use mathlib.Core.List.{List, [], _++_}
-use lib.Dec.{eqb}
 use lib.ListN.{length, take, drop, getD, length-drop}
 use lib.Seq.{getD-drop}
-use borrow.Author.Tests.{lt-ltb, le-ltb, eq-eqb, ne-eqb}
+use borrow.Author.Tests.{lt-ltb, le-ltb, ne-eqb}
 use Rattle.book.specs.Book.{Book, word}
 use Rattle.solvers.specs.declared.Session.{Session}
 use Rattle.script_text.specs.declared.answers.Turn.{Turn}
 use Rattle.script_text.specs.declared.reading.Wanted.{Wanted}
 use Rattle.script_text.specs.Script.{callSize, Shape, moving, asking, stopping, shapeOf, shape, Printed, turn}
-use Rattle.script_text.specs.Turned.{Shows, Turned, wants}
+use Rattle.script_text.specs.Turned.{Turned, wants}
 
 byte-at : (calls : List ℕ) (at i n : ℕ) → n ≡ at + i → getD (drop at calls) i 0 ≡ getD calls n 0
 byte-at calls at i n e = getD-drop at calls i 0 ∙ ap (λ (k : ℕ). getD calls k 0) (sym e)

@@ -1,13 +1,13 @@
 -- A turn, from what the calls in it return.
-use Prim.Native.Nat.{ℕ, _≤_}
+use Prim.Native.Nat.{ℕ}
 use native.Mathlib.Omega.{arith}
 use mathlib.Core.Path.{_≡_, refl, ap, sym, _∙_}
 use mathlib.Core.Bool.{Bool, true, false, true≢false}
 use mathlib.Core.List.{List, [], _++_, append-nil}
-use lib.ListN.{length, take, replicate, length-replicate}
+use lib.ListN.{length, take, length-replicate}
 use Rattle.basics.specs.Text.{Text, ascii}
-use Rattle.basics.specs.Outcome.{Outcome, refused, accepted, refuse, _>>_, mapOutcome}
-use Rattle.basics.specs.Buffer.{bufferAfter, scratchLeast}
+use Rattle.basics.specs.Outcome.{Outcome, refused, accepted, mapOutcome}
+use Rattle.basics.specs.Buffer.{scratchLeast}
 use Rattle.book.specs.Book.{Book}
 use Rattle.solvers.specs.declared.Answer.{Answer}
 use Rattle.solvers.specs.declared.Called.{Called}

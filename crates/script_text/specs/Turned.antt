@@ -54,6 +54,6 @@ pub record Closes (b : Book) (s : Session) (n : ℕ) (r : Turn) (s' : Session) (
   pub more : r .more ≡ true
 
 -- the place of the next call; the end of the input where the program stops
-unfoldable pub nextPlace : (more : Bool) (at length : ℕ) → ℕ
-nextPlace true at n = at + callSize
-nextPlace false at n = n
+unfoldable pub nextPlace : (more : Bool) (at end : ℕ) → ℕ
+nextPlace true at end = at + callSize
+nextPlace false at end = end

@@ -1,4 +1,4 @@
--- `lent_sessions::ask_mut` meets its contract: a walk of its MIR. The session is taken apart into its four fields and passed to the core by value, and built again from the four fields of what the core leaves; the slices go on at their own lifetimes.
+-- `lent_sessions::ask_mut` meets its contract: a walk of its MIR, its steps written by a script from the MIR. The session is taken apart into its four fields and passed to the core by value, and built again from the four fields of what the core leaves; the slices go on at their own lifetimes.
 -- Assumes nothing.
 use mathlib.Core.Path.{_≡_, refl, ap}
 use Prim.Native.Nat.{ℕ, _<_, _^_}

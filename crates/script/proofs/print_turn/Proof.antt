@@ -1,4 +1,4 @@
--- `script::print_turn` meets its contract: a walk of its MIR. The session goes on to the turn, and the buffers are lent to it and then to what prints them.
+-- `script::print_turn` meets its contract: a walk of its MIR, its steps written by a script from the MIR. The session goes on to the turn, and the buffers are lent to it and then to what prints them.
 -- Assumes nothing.
 use mathlib.Core.Path.{_≡_, refl, ap, _∙_}
 use Prim.Native.Nat.{ℕ, _<_, _^_}

@@ -1,4 +1,4 @@
--- `script::run_calls` meets its contract: a walk of its MIR. It owns the session and lends it to the turn in each pass of its loop; the three buffers are lent again with it, and all four are back before the next.
+-- `script::run_calls` meets its contract: a walk of its MIR, its steps written by a script from the MIR. It owns the session and lends it to the turn in each pass of its loop; the three buffers are lent again with it, and all four are back before the next.
 -- Assumes nothing.
 use mathlib.Core.Path.{_≡_, refl, ap, sym, _∙_}
 use Prim.Native.Nat.{ℕ, _<_, _^_}

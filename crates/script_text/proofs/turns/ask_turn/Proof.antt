@@ -1,4 +1,4 @@
--- `script_text::turns::ask_turn` meets its contract: a walk of its MIR. The session is lent to `ask_mut`, and goes on to `reply_turn` where the ask is accepted.
+-- `script_text::turns::ask_turn` meets its contract: a walk of its MIR, its steps written by a script from the MIR. The session is lent to `ask_mut`, and goes on to `reply_turn` where the ask is accepted.
 -- Assumes nothing.
 use mathlib.Core.Path.{_≡_, refl, ap, _∙_}
 use Prim.Native.Nat.{ℕ, _<_, _^_}

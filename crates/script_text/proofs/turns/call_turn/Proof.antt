@@ -1,4 +1,4 @@
--- `script_text::turns::call_turn` meets its contract: a walk of its MIR. The call is read off the input, and the session goes on to its turn.
+-- `script_text::turns::call_turn` meets its contract: a walk of its MIR, its steps written by a script from the MIR. The call is read off the input, and the session goes on to its turn.
 -- Assumes nothing.
 use mathlib.Core.Path.{_≡_, refl, ap, _∙_}
 use Prim.Native.Nat.{ℕ, _<_, _≤_, _^_}

@@ -1,4 +1,4 @@
--- `script_text::turns::move_turn` meets its contract: a walk of its MIR. The session goes on to `move_mut`, and the text buffer is lent to it.
+-- `script_text::turns::move_turn` meets its contract: a walk of its MIR, its steps written by a script from the MIR. The session goes on to `move_mut`, and the text buffer is lent to it.
 -- Assumes nothing.
 use mathlib.Core.Path.{_≡_, refl, ap, _∙_}
 use Prim.Native.Nat.{ℕ, _<_, _^_}

@@ -1,4 +1,4 @@
--- `script_text::turns::reply_turn` meets its contract: a walk of its MIR. The session goes on to `reply_mut`; the closing buffer and two local arrays, the reply and an empty one for the reason, are lent to it.
+-- `script_text::turns::reply_turn` meets its contract: a walk of its MIR, its steps written by a script from the MIR. The session goes on to `reply_mut`; the closing buffer and two local arrays, the reply and an empty one for the reason, are lent to it.
 -- Assumes nothing.
 use mathlib.Core.Path.{_≡_, refl, ap, _∙_}
 use Prim.Native.Nat.{ℕ, _<_, _^_}
