@@ -42,6 +42,11 @@ target/host/leskofar-sanitized: $(HOST_NEEDS)
 	@mkdir -p $(@D)
 	$(CC) $(HOST_FLAGS) -O1 -g $(SANITIZERS) $(LDFLAGS) $(HOST_SOURCES) $(LIB) -o $@
 
+# The same on a system that gives no random bits.
+target/host/leskofar-unrandom: $(HOST_NEEDS) tests/no_random.c
+	@mkdir -p $(@D)
+	$(CC) $(HOST_FLAGS) $(CFLAGS) $(LDFLAGS) $(HOST_SOURCES) tests/no_random.c $(LIB) -o $@
+
 # rt says itself what is unchanged.
 target/staticlib/libleskofar.a: $(wildcard crates/*/src/*.rt) crates.txt
 	rt staticlib leskofar

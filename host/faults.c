@@ -50,6 +50,9 @@ static void add_what_happened(struct conversation *talk, enum fault fault, int w
     case FAULT_INPUT_CLOSED:
         add(message, "the solver closed its input before it had read everything");
         break;
+    case FAULT_LEFT_OVER:
+        add(message, "the solver had written something before the question was sent");
+        break;
     case FAULT_TIMEOUT:
         add(message, "the solver gave no whole answer within %" PRIu64 " seconds", talk->limits.seconds);
         break;
@@ -57,7 +60,7 @@ static void add_what_happened(struct conversation *talk, enum fault fault, int w
         add(message, "the solver's answer is longer than %d MiB", CONVERSATION_MOST_ANSWER / BYTES_PER_MIB);
         break;
     case FAULT_MEMORY:
-        add(message, "the memory does not suffice for what the solver writes");
+        add(message, "the memory does not suffice for what is sent to the solver and what it writes");
         break;
     case FAULT_SYSTEM:
         add(message, "the conversation with the solver broke off: %s", strerror(why));
@@ -89,8 +92,8 @@ static void read_last_errors(struct conversation *talk) {
     }
 }
 
-void fault_tell(struct conversation *talk, enum fault fault) {
-    int why = errno;
+/* Ends the solver, and gives the status that it ended with. */
+static int end_process(struct conversation *talk) {
     int status = 0;
     if (talk->is_open) {
         status = process_kill(&talk->process);
@@ -98,8 +101,38 @@ void fault_tell(struct conversation *talk, enum fault fault) {
         process_close_all(&talk->process);
         talk->is_open = false;
     }
+    return status;
+}
+
+/* A solver that lacks memory seldom says so, and one that says so does it in words of its own. */
+static void add_memory(struct conversation *talk) {
+    if (talk->limits.memory > 0) {
+        add(&talk->fault, "\nits memory is limited to %" PRIu64 " MiB, which may not suffice", talk->limits.memory / BYTES_PER_MIB);
+    }
+}
+
+static void close_log(struct conversation *talk) {
+    log_drop(talk->log);
+    log_received(talk->log, talk->fault.at, talk->fault.length);
+}
+
+void fault_tell(struct conversation *talk, enum fault fault) {
+    int why = errno;
+    int status = end_process(talk);
     add_what_happened(talk, fault, why, status);
     add_shown(&talk->fault, "its output", &talk->received, talk->answered);
     add_shown(&talk->fault, "its error output", &talk->errors, 0);
-    log_received(talk->log, talk->fault.at, talk->fault.length);
+    if (fault == FAULT_ENDED || fault == FAULT_INPUT_CLOSED) {
+        add_memory(talk);
+    }
+    close_log(talk);
+}
+
+void fault_answer(struct conversation *talk, const char *what, const struct answer *answer) {
+    (void)end_process(talk); /* it was still there, or its end would have been the fault */
+    add(&talk->fault, "%s", what);
+    (void)bytes_add(&talk->fault, answer->text, answer->length < MOST_SHOWN ? answer->length : MOST_SHOWN);
+    add_shown(&talk->fault, "its error output", &talk->errors, 0);
+    add_memory(talk);
+    close_log(talk);
 }

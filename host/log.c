@@ -1,37 +1,56 @@
 #include "log.h"
 
-#include <fcntl.h>
+#include "new_file.h"
+
 #include <string.h>
-#include <unistd.h>
 
 static const char COMMENT[] = "; ";
-enum { READABLE_BY_ALL = 0666 }; /* less what the user's mask takes away */
+static const char RESET[] = "(reset)\n";
 
 bool log_open(struct log *log, const char *path) {
-    log->file = NULL;
+    *log = (struct log){0};
     if (path == NULL) {
         return true;
     }
-    int descriptor = open(path, O_WRONLY | O_CREAT | O_TRUNC | O_CLOEXEC, READABLE_BY_ALL);
-    if (descriptor < 0) {
-        return false;
-    }
-    log->file = fdopen(descriptor, "w");
-    if (log->file == NULL) {
-        (void)close(descriptor);
-    }
+    log->file = new_file_open(path);
     return log->file != NULL;
 }
 
-/* A failed write leaves its mark in the file, and log_close looks at that. */
+/* A failed write leaves its mark in the file, and log_is_written looks at that. */
 static void put(struct log *log, const void *bytes, size_t length) {
-    (void)fwrite(bytes, 1, length, log->file);
+    if (length > 0) {
+        (void)fwrite(bytes, 1, length, log->file);
+    }
 }
 
-void log_sent(struct log *log, const uint8_t *text, size_t length) {
-    if (log->file != NULL && length > 0) {
-        put(log, text, length);
+void log_solver(struct log *log) {
+    if (log->file == NULL) {
+        return;
+    }
+    log_note(log, "a new solver");
+    if (log->had_solver) {
+        put(log, RESET, sizeof RESET - 1);
+    }
+    log->had_solver = true;
+}
+
+bool log_sent(struct log *log, const uint8_t *text, size_t length) {
+    return log->file == NULL || bytes_add(&log->pending, text, length);
+}
+
+void log_keep(struct log *log) {
+    if (log->file != NULL) {
+        put(log, log->pending.at, log->pending.length);
+        log->pending.length = 0;
         (void)fflush(log->file);
+    }
+}
+
+void log_drop(struct log *log) {
+    if (log->pending.length > 0) {
+        log_note(log, "sent, and not answered:");
+        log_received(log, log->pending.at, log->pending.length);
+        log->pending.length = 0;
     }
 }
 
@@ -56,12 +75,16 @@ void log_note(struct log *log, const char *note) {
     log_received(log, (const uint8_t *)note, strlen(note));
 }
 
+bool log_is_written(const struct log *log) {
+    return log->file == NULL || ferror(log->file) == 0;
+}
+
 bool log_close(struct log *log) {
-    if (log->file == NULL) {
-        return true;
+    bool is_written = log_is_written(log);
+    if (log->file != NULL) {
+        is_written = fclose(log->file) == 0 && is_written;
     }
-    bool written = ferror(log->file) == 0;
-    written = fclose(log->file) == 0 && written;
+    bytes_free(&log->pending);
     log->file = NULL;
-    return written;
+    return is_written;
 }

@@ -1,7 +1,7 @@
 #include "prove.h"
 
+#include "faults.h"
 #include "negatives.h"
-#include "refusals.h"
 
 #include <inttypes.h>
 #include <stdio.h>
@@ -10,62 +10,40 @@
 /* What every solver is told first, as SMT-LIB 2.6 has it: to answer questions only, and to keep models. */
 static const char OPTIONS[] = "(set-option :print-success false)\n(set-option :produce-models true)\n";
 
-static const char *const REPLIES[] = {"unsat", "sat", "unknown"};
-enum { REPLY_COUNT = sizeof REPLIES / sizeof REPLIES[0] };
+static const char UNSAT[] = "unsat";
+static const char SAT[] = "sat";
+static const char UNKNOWN[] = "unknown";
 
 static const char ERROR_BEGIN[] = "(error";
 static const char UNSUPPORTED[] = "unsupported";
 
-/* The most that is shown of an answer that is none, and the longest line of a refusal. */
-enum { MOST_SHOWN = 1024, MOST_LINE = 200 };
+/* The longest note of a question in the log. */
+enum { MOST_NOTE = 80 };
 
 static bool is_text(const struct answer *answer, const char *text) {
-    return answer->length == strlen(text) && memcmp(answer->text, text, answer->length) == 0;
+    return answer->is_one && answer->length == strlen(text) && memcmp(answer->text, text, answer->length) == 0;
 }
 
 static bool begins_with(const struct answer *answer, const char *text) {
-    return answer->length >= strlen(text) && memcmp(answer->text, text, strlen(text)) == 0;
+    return answer->is_one && answer->length >= strlen(text) && memcmp(answer->text, text, strlen(text)) == 0;
 }
 
 static bool is_reply(const struct answer *answer) {
-    bool is_known = false;
-    for (size_t i = 0; i < REPLY_COUNT; i++) {
-        is_known = is_known || is_text(answer, REPLIES[i]);
-    }
-    return answer->items == 1 && is_known;
+    return is_text(answer, UNSAT) || is_text(answer, SAT) || is_text(answer, UNKNOWN);
 }
 
 static bool is_model(const struct answer *answer) {
-    return answer->items == 1 && begins_with(answer, "(") && !begins_with(answer, ERROR_BEGIN);
+    return begins_with(answer, "(") && !begins_with(answer, ERROR_BEGIN);
 }
 
 /* A solver may have no model, after `unknown` for one; that is no fault. */
 static bool is_no_model(const struct answer *answer) {
-    return answer->items == 1 && (begins_with(answer, ERROR_BEGIN) || is_text(answer, UNSUPPORTED));
+    return begins_with(answer, ERROR_BEGIN) || is_text(answer, UNSUPPORTED);
 }
 
-static void raise_status(struct prover *prover, enum status status) {
-    prover->status = status > prover->status ? status : prover->status;
-}
-
-static void show_trace(struct prover *prover, const struct question *question) {
-    struct writer *writer = prover->writer;
-    if (writer_trace(writer, question->node) == LESKOFAR_ACCEPTED && writer->text.length > 0) {
-        show_block(&prover->show, "trace", writer->text.at, writer->text.length);
-    }
-}
-
-/* A call that the library refuses. What the session is afterwards does not matter where the solver is ended too. */
-static void refused(struct prover *prover, const struct question *question, uint32_t refusal) {
-    char line[MOST_LINE];
-    if (snprintf(line, sizeof line, "refused %" PRIu32 ": %s", refusal, refusal_meaning(refusal)) < 0) {
-        line[0] = '\0';
-    }
-    show_result(&prover->show, question->node, question->term, RED, line);
-    if (prover->show.is_quiet) {
-        complain("node %" PRIu32 ", term %" PRIu32 ": %s", question->node, question->term, line);
-    }
-    raise_status(prover, STATUS_REFUSED);
+static struct result refused(struct prover *prover, uint32_t refusal) {
+    conversation_end(&prover->talk);
+    return (struct result){.verdict = VERDICT_REFUSED, .refusal = refusal};
 }
 
 /* The pops that close a question. Where the solver is gone, the next question finds none and starts a new one. */
@@ -75,66 +53,24 @@ static void send_pops(struct prover *prover) {
     }
 }
 
-static void proved(struct prover *prover, const struct question *question) {
-    send_pops(prover);
-    show_result(&prover->show, question->node, question->term, GREEN, "Proved");
-}
-
-static void unproved(struct prover *prover, const struct question *question) {
-    const struct bytes *reason = &prover->writer->reason;
-    send_pops(prover);
-    show_result(&prover->show, question->node, question->term, YELLOW, "Unproved");
-    show_block(&prover->show, "reason", reason->at, reason->length);
-    show_trace(prover, question);
-    raise_status(prover, STATUS_NOT_PROVED);
-}
-
-/* A failure is told even where all else is quiet. */
-static void complain_of_failure(const struct question *question, struct bytes *failure) {
-    for (size_t i = 0; i < failure->length; i++) {
-        failure->at[i] = show_harmless(failure->at[i]);
-    }
-    complain("node %" PRIu32 ", term %" PRIu32 ": %.*s", question->node, question->term, (int)failure->length,
-             failure->length > 0 ? (const char *)failure->at : "");
-}
-
-/* A question whose solver failed: it is shown, and the next one gets a new solver. */
-static void failed(struct prover *prover, const struct question *question) {
-    struct bytes *failure = &prover->failure;
-    conversation_end(&prover->talk);
-    show_result(&prover->show, question->node, question->term, RED, "Unproved, the solver failed");
-    show_block(&prover->show, "reason", failure->at, failure->length);
-    show_trace(prover, question);
-    if (prover->show.is_quiet) {
-        complain_of_failure(question, failure);
-    }
-    raise_status(prover, STATUS_SOLVER_FAILED);
-}
-
-/* What went wrong: the conversation's own fault, or an answer that is none. Cut short where the memory does not suffice. */
-static void note_failure(struct prover *prover, const char *what, const struct answer *answer) {
+/* What went wrong is kept, since the next solver's conversation begins anew. Cut short where the memory does not suffice. */
+static void note_failure(struct prover *prover) {
     const struct bytes *fault = &prover->talk.fault;
     prover->failure.length = 0;
-    if (answer == NULL) {
-        (void)bytes_add(&prover->failure, fault->at, fault->length);
-        return;
-    }
-    (void)bytes_add_text(&prover->failure, what);
-    (void)bytes_add(&prover->failure, answer->text, answer->length < MOST_SHOWN ? answer->length : MOST_SHOWN);
+    (void)bytes_add(&prover->failure, fault->at, fault->length);
 }
 
 /* The library is told that the check failed, and closes the question with the failure as its reason. */
-static void close_failed(struct prover *prover, const struct question *question) {
+static struct result failed(struct prover *prover) {
+    note_failure(prover);
     uint32_t refusal = writer_reply(prover->writer, false, prover->failure.at, prover->failure.length);
-    if (refusal == LESKOFAR_ACCEPTED) {
-        failed(prover, question);
-    } else {
-        conversation_end(&prover->talk);
-        refused(prover, question, refusal);
+    if (refusal != LESKOFAR_ACCEPTED) {
+        return refused(prover, refusal);
     }
+    return (struct result){.verdict = VERDICT_FAILED, .solver_failed = true};
 }
 
-/* Whether a solver is there; a new one is told first what it has to know. */
+/* Whether a solver is there that can be asked; a new one is told first what it has to know. */
 static bool has_solver(struct prover *prover) {
     struct conversation *talk = &prover->talk;
     const struct bytes *first = &prover->first;
@@ -147,78 +83,102 @@ static bool send(struct prover *prover, struct answer *answer) {
     return conversation_ask(&prover->talk, text->at, text->length, answer);
 }
 
-/* The model is owed. Without one the reply alone is the reason. */
-static void ask_for_model(struct prover *prover, const struct question *question) {
-    struct writer *writer = prover->writer;
+/* Waits for the model: whether there is one. Where there is none `failure` says why. */
+static bool has_model(struct prover *prover, struct answer *answer) {
+    if (!send(prover, answer)) {
+        note_failure(prover);
+        return false;
+    }
+    if (is_no_model(answer)) {
+        prover->failure.length = 0;
+        (void)bytes_add(&prover->failure, answer->text, answer->length); /* cut short where the memory does not suffice */
+        return false;
+    }
+    if (!is_model(answer)) {
+        fault_answer(&prover->talk, "the solver's answer is no model: ", answer);
+        note_failure(prover);
+        return false;
+    }
+    return true;
+}
+
+/* A model is owed. Without one the reply alone is the reason. */
+static struct result ask_for_model(struct prover *prover, enum verdict verdict) {
     const struct bytes *reply = &prover->reply;
     struct answer answer = {0};
-    bool answered = send(prover, &answer);
-    bool has_model = answered && is_model(&answer);
-    bool is_fault = !answered || !(has_model || is_no_model(&answer));
-    if (is_fault) {
-        note_failure(prover, "the solver's answer is no model: ", answered ? &answer : NULL);
-    }
-    uint32_t refusal = writer_model(writer, reply->at, reply->length, has_model ? answer.text : NULL, has_model ? answer.length : 0);
+    struct result result = {.verdict = verdict, .has_model = has_model(prover, &answer)};
+    result.solver_failed = !prover->talk.is_open;
+    uint32_t refusal = writer_model(prover->writer, reply->at, reply->length, result.has_model ? answer.text : NULL,
+                                    result.has_model ? answer.length : 0);
     if (refusal != LESKOFAR_ACCEPTED) {
-        conversation_end(&prover->talk);
-        refused(prover, question, refusal);
-    } else if (is_fault) {
-        failed(prover, question);
-    } else {
-        unproved(prover, question);
+        return refused(prover, refusal);
     }
+    send_pops(prover);
+    return result;
 }
 
 /* Hands a reply to the library, and does what comes of it. */
-static void take_reply(struct prover *prover, const struct question *question, const struct answer *answer) {
+static struct result take_reply(struct prover *prover, const struct answer *answer) {
     struct writer *writer = prover->writer;
+    enum verdict verdict = is_text(answer, UNKNOWN) ? VERDICT_UNKNOWN : VERDICT_SAT;
     prover->reply.length = 0;
     bool is_kept = bytes_add(&prover->reply, answer->text, answer->length);
     uint32_t refusal =
         is_kept ? writer_reply(writer, true, answer->text, answer->length) : (uint32_t)LESKOFAR_BUFFER_TOO_SHORT;
     if (refusal != LESKOFAR_ACCEPTED) {
-        conversation_end(&prover->talk);
-        refused(prover, question, refusal);
-    } else if (writer->result == LESKOFAR_PROVED) {
-        proved(prover, question);
-    } else {
-        ask_for_model(prover, question);
+        return refused(prover, refusal);
+    }
+    if (writer->result != LESKOFAR_PROVED) {
+        return ask_for_model(prover, verdict);
+    }
+    send_pops(prover);
+    return (struct result){.verdict = VERDICT_PROVED};
+}
+
+/* The library's text for the question is there, and goes to the solver. */
+static struct result put(struct prover *prover) {
+    struct answer answer = {0};
+    if (!has_solver(prover) || !send(prover, &answer)) {
+        return failed(prover);
+    }
+    if (!is_reply(&answer)) {
+        const char *what = answer.length == 0 ? "the solver gave no reply to the check" : "the solver answered the check with ";
+        fault_answer(&prover->talk, what, &answer);
+        return failed(prover);
+    }
+    return take_reply(prover, &answer);
+}
+
+static void note_question(struct prover *prover, const struct question *question) {
+    char note[MOST_NOTE];
+    int length = snprintf(note, sizeof note, "node %" PRIu32 ", term %" PRIu32, question->node, question->term);
+    if (length > 0 && (size_t)length < sizeof note) {
+        log_note(prover->talk.log, note);
     }
 }
 
-static void ask(struct prover *prover, const struct question *question) {
-    struct writer *writer = prover->writer;
-    struct answer answer = {0};
-    uint32_t refusal = prover->talk.is_open ? (uint32_t)LESKOFAR_ACCEPTED : writer_fresh(writer);
+struct result prover_ask(struct prover *prover, const struct question *question) {
+    struct conversation *talk = &prover->talk;
+    if (talk->is_open && conversation_has_ended(talk)) {
+        conversation_end(talk);
+    }
+    if (!talk->is_open && !marks_draw(&talk->marks)) {
+        return (struct result){.verdict = VERDICT_UNASKED};
+    }
+    note_question(prover, question);
+    uint32_t refusal = talk->is_open ? (uint32_t)LESKOFAR_ACCEPTED : writer_fresh(prover->writer);
     if (refusal == LESKOFAR_ACCEPTED) {
-        refusal = writer_ask(writer, question->node, question->term);
+        refusal = writer_ask(prover->writer, question->node, question->term);
     }
-    if (refusal != LESKOFAR_ACCEPTED) {
-        refused(prover, question, refusal);
-    } else if (!has_solver(prover) || !send(prover, &answer)) {
-        note_failure(prover, "", NULL);
-        close_failed(prover, question);
-    } else if (!is_reply(&answer)) {
-        note_failure(prover, answer.items == 0 ? "the solver gave no reply to the check" : "the solver answered the check with ", &answer);
-        close_failed(prover, question);
-    } else {
-        take_reply(prover, question, &answer);
-    }
+    /* A refused call has changed nothing: the solver that there is serves the next question. */
+    return refusal == LESKOFAR_ACCEPTED ? put(prover) : (struct result){.verdict = VERDICT_REFUSED, .refusal = refusal};
 }
 
 bool prover_begin(struct prover *prover, struct writer *writer, const struct engine *engine, const struct limits *limits,
-                  struct log *log, struct show show) {
-    *prover = (struct prover){.writer = writer, .engine = *engine, .show = show, .talk = {.limits = *limits, .log = log}};
+                  struct log *log) {
+    *prover = (struct prover){.writer = writer, .engine = *engine, .talk = {.limits = *limits, .log = log}};
     return bytes_add_text(&prover->first, OPTIONS) &&
            (!engine->reads_negatives_as_names || negatives_define(&writer->book, &prover->first));
-}
-
-void prover_ask_all(struct prover *prover, const struct question *questions, size_t count) {
-    for (size_t i = 0; i < count; i++) {
-        show_count(&prover->show, i, count);
-        ask(prover, &questions[i]);
-        show_flush();
-    }
 }
 
 void prover_end(struct prover *prover) {

@@ -1,6 +1,7 @@
 #include "commands.h"
 
-#include "prove.h"
+#include "new_file.h"
+#include "report.h"
 
 #include <errno.h>
 #include <stdlib.h>
@@ -19,7 +20,11 @@ struct request {
     const char *log;
     uint64_t seconds;
     uint64_t mib;
+    bool asks_premises;
     bool is_quiet;
+    bool is_verbose;
+    bool raw_names;
+    bool raw_sorts;
 };
 
 /* The questions: pairs of numbers behind the book. */
@@ -48,7 +53,11 @@ static bool read_request(int count, char **arguments, struct request *request) {
                                      {.name = "--log", .text = &request->log},
                                      {.name = "--timeout", .number = &request->seconds, .least = 1, .most = MOST_SECONDS},
                                      {.name = "--memory", .number = &request->mib, .least = 1, .most = MOST_MIB},
-                                     {.name = "--quiet", .flag = &request->is_quiet}};
+                                     {.name = "--premises", .flag = &request->asks_premises},
+                                     {.name = "--raw-names", .flag = &request->raw_names},
+                                     {.name = "--raw-sorts", .flag = &request->raw_sorts},
+                                     {.name = "--quiet", .flag = &request->is_quiet},
+                                     {.name = "--verbose", .flag = &request->is_verbose}};
     if (!options_read(count, arguments, options, sizeof options / sizeof options[0], &operands)) {
         return false;
     }
@@ -60,14 +69,37 @@ static bool read_request(int count, char **arguments, struct request *request) {
     return read_questions(&operands, request);
 }
 
-static enum status ask_all(const struct request *request, struct writer *writer, struct log *log) {
+/* The question, and before it, where that is wanted, what its node's premises are worth. */
+static void ask(const struct request *request, struct premises_known *known, struct prover *prover, struct report *report,
+                const struct question *question) {
+    struct result at_premises = {0};
+    enum premises at_node = request->asks_premises ? premises_at(known, prover, question->node, &at_premises) : PREMISES_UNASKED;
+    struct result result = prover_ask(prover, question);
+    report_result(report, prover, question, &result, at_node);
+    if (at_premises.solver_failed) {
+        report->status = STATUS_SOLVER_FAILED;
+    }
+}
+
+/* Goes on as long as somebody can read what is shown and what is logged. */
+static enum status ask_each(const struct request *request, struct premises_known *known, struct prover *prover) {
+    struct report report = {.show = show_begin(request->is_quiet), .is_verbose = request->is_verbose};
+    bool goes_on = true;
+    for (size_t i = 0; goes_on && i < request->count; i++) {
+        show_count(&report.show, i, request->count);
+        ask(request, known, prover, &report, &request->questions[i]);
+        goes_on = show_flush() && log_is_written(prover->talk.log);
+    }
+    return report.status;
+}
+
+static enum status ask_all(const struct request *request, struct premises_known *known, struct writer *writer, struct log *log) {
     struct prover prover;
     const struct engine engine = engine_named(request->solver);
     const struct limits limits = {request->seconds, request->mib * BYTES_PER_MIB};
     enum status status = STATUS_SOLVER_FAILED;
-    if (prover_begin(&prover, writer, &engine, &limits, log, show_begin(request->is_quiet))) {
-        prover_ask_all(&prover, request->questions, request->count);
-        status = prover.status;
+    if (prover_begin(&prover, writer, &engine, &limits, log)) {
+        status = ask_each(request, known, &prover);
     } else {
         complain("the memory does not suffice");
     }
@@ -76,13 +108,13 @@ static enum status ask_all(const struct request *request, struct writer *writer,
 }
 
 /* With the log open, if there is to be one. */
-static enum status prove_logged(const struct request *request, struct writer *writer) {
+static enum status prove_logged(const struct request *request, struct premises_known *known, struct writer *writer) {
     struct log log;
     if (!log_open(&log, request->log)) {
         complain("%s: %s", request->log, strerror(errno));
         return STATUS_REFUSED;
     }
-    enum status status = ask_all(request, writer, &log);
+    enum status status = ask_all(request, known, writer, &log);
     if (!log_close(&log)) {
         complain("%s cannot be written", request->log);
         status = status > STATUS_REFUSED ? status : STATUS_REFUSED;
@@ -90,13 +122,27 @@ static enum status prove_logged(const struct request *request, struct writer *wr
     return status;
 }
 
+/* Everything that can be known before a solver is started: false after a complaint. */
+static bool is_sound(const struct request *request, struct premises_known *known, const struct bytes *book) {
+    if (request->log != NULL && new_file_is(request->log, request->book)) {
+        complain("--log %s is the book, which would be overwritten", request->log);
+        return false;
+    }
+    if (request->asks_premises && !premises_begin(known, book)) {
+        complain("%s: --premises asks whether false follows, and the book has no term false; plan book adds one", request->book);
+        return false;
+    }
+    return true;
+}
+
 enum status command_prove(int count, char **arguments) {
     struct request request = {.solver = "z3", .seconds = DEFAULT_SECONDS};
     struct writer writer = {0};
+    struct premises_known known = {0};
     enum status status = STATUS_REFUSED;
     if (read_request(count, arguments, &request) && command_open(&writer, request.book) &&
-        command_accepted(request.book, writer_test_book(&writer))) {
-        status = prove_logged(&request, &writer);
+        command_accepted(request.book, writer_test_book(&writer)) && is_sound(&request, &known, &writer.book)) {
+        status = prove_logged(&request, &known, &writer);
     }
     free(request.questions);
     writer_free(&writer);

@@ -55,14 +55,12 @@ static bool between(struct scan *scan, uint8_t byte) {
     if (byte == ')') {
         return closes(scan);
     }
-    if (byte == ';') {
-        scan->mode = SCAN_COMMENT;
-    } else if (!is_blank(byte)) {
+    if (!is_blank(byte)) {
         begin_item(scan);
         if (byte == '(') {
             scan->depth++;
         } else {
-            scan->mode = byte == '"' ? SCAN_STRING : byte == '|' ? SCAN_BARS : SCAN_ATOM;
+            scan->mode = byte == '"' ? SCAN_STRING : byte == '|' ? SCAN_BARS : byte == ';' ? SCAN_COMMENT : SCAN_ATOM;
         }
     }
     scan->next++;
@@ -110,7 +108,9 @@ static bool step(struct scan *scan, const uint8_t *bytes) {
         scan->next++;
         return byte == '|' && token_ends(scan);
     case SCAN_COMMENT:
-        scan->mode = byte == '\n' ? SCAN_BETWEEN : SCAN_COMMENT;
+        if (byte == '\n') {
+            return token_ends(scan);
+        }
         scan->next++;
         return false;
     }
@@ -124,4 +124,8 @@ bool scan_item(struct scan *scan, const uint8_t *bytes, size_t length) {
         }
     }
     return false;
+}
+
+bool scan_is_open(const struct scan *scan) {
+    return scan->in_item;
 }

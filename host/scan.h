@@ -1,6 +1,6 @@
 /*
- * Finds where the S-expressions end that a solver writes, as its bytes come in. Parentheses in strings, between bars and in comments do
- * not count. Whatever else stands there is an item too, so that nothing is passed over.
+ * Finds where the S-expressions of a text end. Parentheses in strings, between bars and in comments do not count. Whatever else stands
+ * there is an item too, a comment outside of parentheses among them, so that nothing is passed over but blanks.
  */
 #ifndef SCAN_H
 #define SCAN_H
@@ -22,9 +22,12 @@ struct scan {
 };
 
 /*
- * Goes on in bytes that begin as before and may have grown: true where an item has ended, else there are too few bytes. A word or string
- * outside of parentheses ends at the byte behind it.
+ * Goes on in bytes that begin as before and may have grown: true where an item has ended, else there are too few bytes. A word, string or
+ * comment outside of parentheses ends at the byte behind it.
  */
 bool scan_item(struct scan *scan, const uint8_t *bytes, size_t length);
+
+/* Whether the bytes so far end in an item that has not ended. */
+bool scan_is_open(const struct scan *scan);
 
 #endif

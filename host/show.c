@@ -29,7 +29,7 @@ struct show show_begin(bool is_quiet) {
 void show_count(const struct show *show, size_t done, size_t of) {
     if (show->is_terminal && !show->is_quiet) {
         (void)printf("%s%zu of %zu done", CLEARED_LINE, done, of);
-        show_flush();
+        (void)show_flush(); /* the next one looks at it again */
     }
 }
 
@@ -77,12 +77,12 @@ void show_text(const uint8_t *text, size_t length) {
     }
 }
 
-void show_flush(void) {
-    (void)fflush(stdout);
+bool show_flush(void) {
+    return fflush(stdout) == 0 && ferror(stdout) == 0;
 }
 
 bool show_end(void) {
-    if (fflush(stdout) == 0 && ferror(stdout) == 0) {
+    if (show_flush()) {
         return true;
     }
     complain("standard output cannot be written");

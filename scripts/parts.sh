@@ -64,7 +64,7 @@ compiled() { # source program words for the compiler...
 # The host, its tools, and what its tests need.
 host_built() {
     need z3 z3 && need cvc5 cvc5 && need valgrind valgrind && need pkg-config pkg-config && need script bsdutils && need man man-db &&
-        make --no-print-directory host target/host/leskofar-sanitized tools >"$log" 2>&1 && return
+        make --no-print-directory host target/host/leskofar-sanitized target/host/leskofar-unrandom tools >"$log" 2>&1 && return
     cat "$log"
     echo 'FAILED: no host, or what its tests need cannot be installed'
     count 0 1

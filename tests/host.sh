@@ -2,6 +2,7 @@
 # The host as it is run: with z3 and cvc5, with solvers that fail, and on made plans whose truth is known.
 #
 #   HOST      the command to test; may have words before it, such as valgrind's
+#   UNRANDOM_HOST  the host on a system that gives no random bits
 #   TOOLS     where the reference's tools `plan` and `chains` are
 #   PLANS     how many made plans z3 is asked, and OTHER_PLANS how many cvc5
 #   PARTS     which of the groups in tests/host/
@@ -13,6 +14,7 @@
 set -u
 cd "$(dirname "$0")/.." || exit 1
 HOST=${HOST:-target/host/leskofar}
+UNRANDOM_HOST=${UNRANDOM_HOST:-target/host/leskofar-unrandom}
 TOOLS=${TOOLS:-reference/target/release}
 PLANS=${PLANS:-500}
 OTHER_PLANS=${OTHER_PLANS:-50}
@@ -141,7 +143,7 @@ hangs() { # solver [text...]
     seconds=$ENOUGH
 }
 
-for group in ${PARTS:-usage samples faults limits plans}; do
+for group in ${PARTS:-usage samples faults attacks limits plans}; do
     . "tests/host/$group.sh"
 done
 

@@ -34,11 +34,12 @@ static const struct row TABLE[] = {
     {"|a b|c ", {"|a b|", "c"}},
     {"(|\"|)\"x\" ", {"(|\"|)", "\"x\""}},
     {"(\"|\")", {"(\"|\")"}},
-    {"; sat\nunsat\n", {"unsat"}},
+    {"; sat\nunsat\n", {"; sat", "unsat"}}, /* nothing is passed over */
+    {"; sat", {0}},
     {"(a ; )\n)", {"(a ; )\n)"}},
     {"(a ; \"\n)", {"(a ; \"\n)"}},
     {"(a \";\n\")", {"(a \";\n\")"}},
-    {"a;b\n", {"a"}},
+    {"a;b\n", {"a", ";b"}},
     {"\x01\xff\n", {"\x01\xff"}},
 };
 enum { ROWS = sizeof TABLE / sizeof TABLE[0] };

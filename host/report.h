@@ -1,0 +1,20 @@
+/* Shows what came of the questions, and gathers the exit status. */
+#ifndef REPORT_H
+#define REPORT_H
+
+#include "complain.h"
+#include "premises.h"
+#include "prove.h"
+#include "show.h"
+
+struct report {
+    struct show show;
+    bool is_verbose;    /* what the solver writes to its standard error is told always, and not only where it fails */
+    enum status status; /* of all questions so far */
+};
+
+/* `at_node` is what is known of the premises there. */
+void report_result(struct report *report, struct prover *prover, const struct question *question, const struct result *result,
+                   enum premises at_node);
+
+#endif
