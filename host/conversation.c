@@ -111,7 +111,8 @@ static enum turn turn(struct conversation *talk, int64_t *deadline) {
     }
     struct pollfd ready[] = {{talk->process.in, has_to_send(talk) ? POLLOUT : 0, 0},
                              {talk->process.out, POLLIN, 0},
-                             {talk->process.err, POLLIN, 0}};
+                             {talk->process.err, POLLIN, 0},
+                             {talk->process.ended, POLLIN, 0}};
     if (poll(ready, sizeof ready / sizeof ready[0], left < INT_MAX ? (int)left : INT_MAX) < 0) {
         return errno == EINTR ? GOES_ON : fail(talk, FAULT_SYSTEM);
     }
@@ -124,6 +125,8 @@ static enum turn turn(struct conversation *talk, int64_t *deadline) {
     }
     if (result == GOES_ON && ready[1].revents != 0) {
         result = read_answer(talk);
+    } else if (result == GOES_ON && ready[3].revents != 0 && poll(&ready[1], 1, 0) == 0) {
+        result = fail(talk, FAULT_ENDED); /* all that the solver itself wrote was read */
     }
     return result;
 }
