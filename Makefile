@@ -12,7 +12,7 @@ VERSION = 0.1.0
 
 CC = cc
 CFLAGS = -O2
-HOST_FLAGS = -std=c11 -Wall -Wextra -Werror -pedantic -D_POSIX_C_SOURCE=200809L -Iinclude
+HOST_FLAGS = -std=c11 -pthread -Wall -Wextra -Werror -pedantic -D_POSIX_C_SOURCE=200809L -Iinclude
 SANITIZERS = -fsanitize=address,undefined -fno-sanitize-recover=all -fno-omit-frame-pointer
 HOST = target/host/leskofar
 HOST_SOURCES = $(sort $(wildcard host/*.c))

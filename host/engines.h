@@ -12,7 +12,7 @@ struct engine {
     bool reads_negatives_as_names;
 };
 
-/* What `--solver` names: z3, cvc5, or a command for the shell. */
+/* What `--solver` names: z3 or cvc5, alone or with the path to it, or a command for the shell. The name must stay as long as the engine. */
 struct engine engine_named(const char *name);
 
 #endif

@@ -3,6 +3,7 @@
 #include "help.h"
 #include "show.h"
 #include "signals.h"
+#include "stack.h"
 
 #include <fcntl.h>
 #include <stdio.h>
@@ -60,14 +61,19 @@ static bool keep_streams(void) {
     return descriptor > STDERR_FILENO && close(descriptor) == 0;
 }
 
+/* The arguments behind the program's name. */
+static enum status run_command(int count, char **arguments) {
+    if (count < 1) {
+        complain("a command is missing; leskofar --help lists them");
+        return STATUS_REFUSED;
+    }
+    return run(arguments[0], count - 1, arguments + 1);
+}
+
 int main(int count, char **arguments) {
     if (!keep_streams() || !signals_prepare()) {
         complain("the system gives neither files nor signals");
         return STATUS_REFUSED;
     }
-    if (count < 2) {
-        complain("a command is missing; leskofar --help lists them");
-        return STATUS_REFUSED;
-    }
-    return run(arguments[1], count - 2, arguments + 2);
+    return stack_run(run_command, count - 1, arguments + 1);
 }

@@ -1,28 +1,23 @@
 #include "process.h"
 
+#include "keeper.h"
 #include "signals.h"
 
 #include <errno.h>
 #include <fcntl.h>
 #include <signal.h>
-#include <stdio.h>
-#include <string.h>
 #include <sys/resource.h>
 #include <sys/wait.h>
 #include <unistd.h>
-#ifdef __linux__
-#include <sys/prctl.h>
-#endif
 
-/* The pipes of a new process, by the number of the stream that each serves there. */
-struct pipes {
-    int ends[3][2];
-};
+/* The pipes of a new process; the first three have the numbers of the streams that they serve there. */
+enum { IN = STDIN_FILENO, OUT = STDOUT_FILENO, ERR = STDERR_FILENO, ENDED, LIFE, PIPE_COUNT };
 enum { READING = 0, WRITING = 1 };
+static const int OURS[PIPE_COUNT] = {[IN] = WRITING, [OUT] = READING, [ERR] = READING, [ENDED] = READING, [LIFE] = WRITING};
 
-static int child_end(int stream) {
-    return stream == STDIN_FILENO ? READING : WRITING;
-}
+struct pipes {
+    int ends[PIPE_COUNT][2];
+};
 
 void process_close(int *pipe_end) {
     if (*pipe_end >= 0) {
@@ -31,10 +26,15 @@ void process_close(int *pipe_end) {
     }
 }
 
-static void close_pipes(struct pipes *pipes) {
-    for (int stream = 0; stream < 3; stream++) {
-        process_close(&pipes->ends[stream][READING]);
-        process_close(&pipes->ends[stream][WRITING]);
+static void close_ours(struct pipes *pipes) {
+    for (int use = 0; use < PIPE_COUNT; use++) {
+        process_close(&pipes->ends[use][OURS[use]]);
+    }
+}
+
+static void close_others(struct pipes *pipes) {
+    for (int use = 0; use < PIPE_COUNT; use++) {
+        process_close(&pipes->ends[use][1 - OURS[use]]);
     }
 }
 
@@ -46,70 +46,47 @@ static bool prepare_ends(const int *ends, int ours) {
 }
 
 static bool open_pipes(struct pipes *pipes) {
-    *pipes = (struct pipes){{{-1, -1}, {-1, -1}, {-1, -1}}};
-    for (int stream = 0; stream < 3; stream++) {
-        int *ends = pipes->ends[stream];
-        if (pipe(ends) != 0 || !prepare_ends(ends, 1 - child_end(stream))) {
-            close_pipes(pipes);
+    for (int use = 0; use < PIPE_COUNT; use++) {
+        pipes->ends[use][READING] = -1;
+        pipes->ends[use][WRITING] = -1;
+    }
+    for (int use = 0; use < PIPE_COUNT; use++) {
+        if (pipe(pipes->ends[use]) != 0 || !prepare_ends(pipes->ends[use], OURS[use])) {
+            int why = errno;
+            close_ours(pipes);
+            close_others(pipes);
+            errno = why;
             return false;
         }
     }
     return true;
 }
 
-static bool limit(int resource, rlim_t most) {
-    const struct rlimit limits = {.rlim_cur = most, .rlim_max = most};
-    return setrlimit(resource, &limits) == 0;
+/* The new process: the keeper has only the other ends. */
+static void keep(struct pipes *pipes, const char *const *command, uint64_t memory) {
+    close_ours(pipes);
+    const struct keeper_ends ends = {.streams = {pipes->ends[IN][READING], pipes->ends[OUT][WRITING], pipes->ends[ERR][WRITING]},
+                                     .ended = pipes->ends[ENDED][WRITING],
+                                     .life = pipes->ends[LIFE][READING]};
+    keeper_run(&ends, command, memory);
 }
 
-/* A solver does not outlive this program, not even where that is killed. */
-static bool die_with_parent(void) {
-#ifdef __linux__
-    return prctl(PR_SET_PDEATHSIG, (unsigned long)SIGKILL) == 0;
-#else
-    return true;
-#endif
-}
-
-static bool become_solver(const struct pipes *pipes, uint64_t memory) {
-    for (int stream = 0; stream < 3; stream++) {
-        if (dup2(pipes->ends[stream][child_end(stream)], stream) < 0) {
-            return false;
-        }
-    }
-    return setpgid(0, 0) == 0 && die_with_parent() && limit(RLIMIT_CORE, 0) && (memory == 0 || limit(RLIMIT_AS, (rlim_t)memory)) &&
-           signals_forget();
-}
-
-/* The new process. Its standard error is read by the other one, which tells why a command could not be started. */
-static void run(const struct pipes *pipes, const char *const *command, uint64_t memory) {
-    if (become_solver(pipes, memory)) {
-        (void)execvp(command[0], (char *const *)command); /* it only returns where it fails */
-    }
-    (void)dprintf(STDERR_FILENO, "%s: %s\n", command[0], strerror(errno));
-    _exit(PROCESS_NOT_STARTED);
-}
-
-/* Forks with the ending signals held back until the new group is watched. */
-static pid_t fork_watched(const struct pipes *pipes, const char *const *command, uint64_t memory) {
+/* Forks with the ending signals held back until the keeper is watched. */
+static pid_t fork_watched(struct pipes *pipes, const char *const *command, uint64_t memory) {
     if (!signals_hold()) {
         return -1;
     }
-    pid_t pid = fork();
-    if (pid == 0) {
-        run(pipes, command, memory);
-    }
-    if (pid > 0) {
-        (void)setpgid(pid, pid); /* the new process does it too, and one of both is first */
-        signals_watch(pid);
-    }
+    pid_t keeper = fork();
     int why = errno;
-    if (!signals_release() && pid > 0) {
-        why = errno;
-        (void)kill(-pid, SIGKILL);
+    if (keeper == 0) {
+        keep(pipes, command, memory);
     }
+    if (keeper > 0) {
+        signals_watch(pipes->ends[LIFE][WRITING], keeper);
+    }
+    (void)signals_release(); /* the mask is one that the system gave */
     errno = why;
-    return pid;
+    return keeper;
 }
 
 bool process_start(struct process *process, const char *const *command, uint64_t memory) {
@@ -117,27 +94,54 @@ bool process_start(struct process *process, const char *const *command, uint64_t
     if (!open_pipes(&pipes)) {
         return false;
     }
-    pid_t pid = fork_watched(&pipes, command, memory);
-    if (pid < 0) {
-        int why = errno;
-        close_pipes(&pipes);
+    pid_t keeper = fork_watched(&pipes, command, memory);
+    int why = errno;
+    close_others(&pipes);
+    if (keeper < 0) {
+        close_ours(&pipes);
         errno = why;
         return false;
     }
-    *process = (struct process){pid, pipes.ends[STDIN_FILENO][WRITING], pipes.ends[STDOUT_FILENO][READING],
-                                pipes.ends[STDERR_FILENO][READING]};
-    for (int stream = 0; stream < 3; stream++) {
-        process_close(&pipes.ends[stream][child_end(stream)]);
-    }
+    *process = (struct process){.keeper = keeper,
+                                .in = pipes.ends[IN][WRITING],
+                                .out = pipes.ends[OUT][READING],
+                                .err = pipes.ends[ERR][READING],
+                                .ended = pipes.ends[ENDED][READING],
+                                .life = pipes.ends[LIFE][WRITING]};
     return true;
 }
 
-int process_kill(struct process *process) {
-    int status = 0;
-    (void)kill(-process->pid, SIGKILL); /* it fails where nobody is left */
-    while (waitpid(process->pid, &status, 0) < 0 && errno == EINTR) {
+/* The keeper tells it in one piece. One that was ended itself tells nothing, and its solver was killed with it. */
+bool process_has_ended(struct process *process, int *status) {
+    if (!process->has_ended) {
+        int told = 0;
+        ssize_t length = read(process->ended, &told, sizeof told);
+        process->has_ended = length >= 0;
+        process->status = length == (ssize_t)sizeof told ? told : SIGKILL;
     }
-    signals_watch(0);
+    if (process->has_ended) {
+        *status = process->status;
+    }
+    return process->has_ended;
+}
+
+/* A signal that comes meanwhile finds no pipe that it would close again, but a keeper that it can wait for too. */
+static void end_life(struct process *process) {
+    bool is_held = signals_hold();
+    signals_watch(SIGNALS_NO_PIPE, process->keeper);
+    process_close(&process->life);
+    if (is_held) {
+        (void)signals_release(); /* the mask is one that the system gave */
+    }
+}
+
+int process_kill(struct process *process) {
+    int status = SIGKILL;
+    end_life(process);
+    while (waitpid(process->keeper, NULL, 0) < 0 && errno == EINTR) {
+    }
+    signals_watch(SIGNALS_NO_PIPE, SIGNALS_NO_KEEPER);
+    (void)process_has_ended(process, &status); /* the pipe has what the keeper told, or its end */
     return status;
 }
 
@@ -145,4 +149,13 @@ void process_close_all(struct process *process) {
     process_close(&process->in);
     process_close(&process->out);
     process_close(&process->err);
+    process_close(&process->ended);
+}
+
+uint64_t process_most_memory(void) {
+    struct rlimit limits;
+    if (getrlimit(RLIMIT_AS, &limits) != 0 || limits.rlim_max == RLIM_INFINITY) {
+        return UINT64_MAX;
+    }
+    return (uint64_t)limits.rlim_max;
 }

@@ -4,6 +4,7 @@
 #include "report.h"
 
 #include <errno.h>
+#include <inttypes.h>
 #include <stdlib.h>
 #include <string.h>
 
@@ -47,6 +48,15 @@ static bool read_questions(const struct operands *operands, struct request *requ
     return true;
 }
 
+/* Whether the system lets a solver have as much memory as it is to have at most. */
+static bool is_memory_allowed(uint64_t mib) {
+    uint64_t most = process_most_memory() / BYTES_PER_MIB;
+    if (mib > most) {
+        complain("--memory %" PRIu64 ": the system allows at most %" PRIu64 " MiB", mib, most);
+    }
+    return mib <= most;
+}
+
 static bool read_request(int count, char **arguments, struct request *request) {
     struct operands operands;
     const struct option options[] = {{.name = "--solver", .text = &request->solver},
@@ -66,7 +76,7 @@ static bool read_request(int count, char **arguments, struct request *request) {
         return false;
     }
     request->book = operands.at[0];
-    return read_questions(&operands, request);
+    return is_memory_allowed(request->mib) && read_questions(&operands, request);
 }
 
 /* The question, and before it, where that is wanted, what its node's premises are worth. */

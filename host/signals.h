@@ -1,21 +1,30 @@
-/* Signals that end the program: no solver is left behind. */
+/*
+ * Signals that end the program: no solver is left behind. One thread works, and takes these signals; every other one holds them back for
+ * good, so that what is changed while they are held back is never seen half changed.
+ */
 #ifndef SIGNALS_H
 #define SIGNALS_H
 
 #include <stdbool.h>
 #include <sys/types.h>
 
-/* At the program's begin. A solver that goes away then makes a write fail, and does not end the program. */
+/* At the program's begin. A write to a pipe that nobody reads, or beyond a file's limit, then fails, and does not end the program. */
 bool signals_prepare(void);
 
-/* The signals are held back between these two, so that no solver is started that a signal would leave behind. */
+/* The calling thread holds the signals back between these two. False where the system refuses; errno says why. */
 bool signals_hold(void);
 bool signals_release(void);
 
 /* In a new process, before it becomes the solver: as if nothing had been prepared. */
 bool signals_forget(void);
 
-/* The group of processes that such a signal kills; 0 for none. */
-void signals_watch(pid_t group);
+/* For signals_watch: no pipe, no process. */
+enum { SIGNALS_NO_PIPE = -1, SIGNALS_NO_KEEPER = 0 };
+
+/*
+ * What such a signal does before it ends the program: it closes the life pipe of a keeper, and waits for the keeper. To be called while the
+ * signals are held back.
+ */
+void signals_watch(int life, pid_t keeper);
 
 #endif
