@@ -5,6 +5,7 @@
 #include "../host/transfer.h"
 #include "expect.h"
 
+#include <fcntl.h>
 #include <string.h>
 #include <unistd.h>
 
@@ -13,7 +14,7 @@ static const char ANSWER[] = "unsat\n";
 /* A conversation over pipes whose other ends the test holds: `there[1]` writes what the solver would. */
 static struct conversation make(struct log *log, int there[2], int ended[2]) {
     struct conversation talk = {.is_open = false, .limits = {.seconds = 1}, .log = log};
-    expect("pipes", pipe(there) == 0 && pipe(ended) == 0);
+    expect("pipes", pipe(there) == 0 && pipe(ended) == 0 && fcntl(ended[0], F_SETFL, O_NONBLOCK) == 0);
     talk.process = (struct process){.keeper = -1, .in = -1, .out = there[0], .err = -1, .ended = ended[0], .life = -1};
     return talk;
 }

@@ -65,8 +65,8 @@ done
 # A solver that dies at any byte it writes or reads: no question that does not hold is proved, and none is lost.
 pairs='3 34 4 34'
 # More bytes than both answers have, and more than the host sends.
-MOST_WRITTEN=240
-MOST_READ=1400
+MOST_WRITTEN=480
+MOST_READ=1800
 byte=0
 is_whole=no
 while [ "$byte" -le "$MOST_WRITTEN" ]; do
