@@ -27,7 +27,7 @@ enum { MILLISECOND = 1000000, MICROSECOND = 1000, PER_SECOND = 1000 };
 enum { EARLY_PART = 8 };
 
 /* At least one in so many moments must have found a solver, else nothing is shown. */
-enum { LEAST_PART = 3 };
+enum { LEAST_PART = 5 };
 
 static const int SIGNALS[] = {SIGINT, SIGTERM, SIGHUP, SIGQUIT, SIGUSR1, SIGALRM, SIGPIPE, SIGKILL};
 enum { SIGNAL_COUNT = sizeof SIGNALS / sizeof SIGNALS[0] };
