@@ -13,6 +13,7 @@ VERSION = 0.1.0
 CC = cc
 CFLAGS = -O2
 HOST_FLAGS = -std=c11 -pthread -Wall -Wextra -Werror -pedantic -D_POSIX_C_SOURCE=200809L -Iinclude
+TEST_FLAGS = -std=c11 -Wall -Wextra -Werror -pedantic
 SANITIZERS = -fsanitize=address,undefined -fno-sanitize-recover=all -fno-omit-frame-pointer
 HOST = target/host/leskofar
 HOST_SOURCES = $(sort $(wildcard host/*.c))
@@ -46,6 +47,15 @@ target/host/leskofar-sanitized: $(HOST_NEEDS)
 target/host/leskofar-unrandom: $(HOST_NEEDS) tests/no_random.c
 	@mkdir -p $(@D)
 	$(CC) $(HOST_FLAGS) $(CFLAGS) $(LDFLAGS) $(HOST_SOURCES) tests/no_random.c $(LIB) -o $@
+
+# What the host's tests need: a driver that ends hosts by signals, and a writer of the deepest books.
+target/host/kills: tests/kills.c tests/processes.h
+	@mkdir -p $(@D)
+	$(CC) $(TEST_FLAGS) $(CFLAGS) $< -o $@
+
+target/host/deepest: tests/deepest.c tests/nests.h tests/made_book.h
+	@mkdir -p $(@D)
+	$(CC) $(TEST_FLAGS) $(CFLAGS) $< -o $@
 
 # rt says itself what is unchanged.
 target/staticlib/libleskofar.a: $(wildcard crates/*/src/*.rt) crates.txt

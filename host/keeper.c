@@ -16,6 +16,9 @@
 /* The keeper has its two pipes in the place of standard streams: so it keeps no stream of the program open, and pselect takes them. */
 enum { LIFE = STDIN_FILENO, ENDED = STDOUT_FILENO };
 
+/* Those whom a killed process leaves are looked for behind so many waits at most: they may leave others as fast as they are waited for. */
+enum { REAPED_AT_ONCE = 1000 };
+
 /* How waitpid puts an exit status, and a memory image that was written. */
 enum { EXIT_SHIFT = 8, EXIT_MOST = 0xff, HAS_IMAGE = 0x80 };
 
@@ -42,19 +45,20 @@ static int status_of(const siginfo_t *info) {
 }
 
 /*
- * Looks who has ended. The solver is not waited for: as long as it is not, neither its number nor its group's is given to another process.
- * Others are orphans that the keeper has got.
+ * Looks for one that has ended; false where there is none. The solver is not waited for: as long as it is not, neither its number nor its
+ * group's is given to another process. Others are orphans that the keeper has got.
  */
-static void look(struct keeping *keeping) {
+static bool look(struct keeping *keeping) {
     siginfo_t info = {0};
-    while (!keeping->has_told && waitid(P_ALL, 0, &info, WEXITED | WNOHANG | WNOWAIT) == 0 && info.si_pid != 0) {
-        if (info.si_pid == keeping->solver) {
-            tell(keeping, status_of(&info));
-        } else {
-            (void)waitpid(info.si_pid, NULL, 0); /* it has ended, and nobody else waits for it */
-        }
-        info = (siginfo_t){0};
+    if (keeping->has_told || waitid(P_ALL, 0, &info, WEXITED | WNOHANG | WNOWAIT) != 0 || info.si_pid == 0) {
+        return false;
     }
+    if (info.si_pid == keeping->solver) {
+        tell(keeping, status_of(&info));
+    } else {
+        (void)waitpid(info.si_pid, NULL, 0); /* it has ended, and nobody else waits for it */
+    }
+    return true;
 }
 
 /* Whether a number is that of a child that nobody has waited for. Nobody but the keeper does: until then the number is the child's. */
@@ -92,11 +96,15 @@ static bool kill_children(const struct keeping *keeping) {
     return found;
 }
 
-/* Waits for a child, and for all others that have ended by then. */
+/* Waits for a child, and for others that have ended by then. */
 static void reap(struct keeping *keeping) {
-    int status = 0;
     int how = 0;
-    for (pid_t pid = waitpid(-1, &status, how); pid > 0 || (pid < 0 && errno == EINTR); pid = waitpid(-1, &status, how)) {
+    for (int reaped = 0; reaped < REAPED_AT_ONCE; reaped++) {
+        int status = 0;
+        pid_t pid = waitpid(-1, &status, how);
+        if (pid == 0 || (pid < 0 && errno != EINTR)) {
+            return;
+        }
         if (pid == keeping->solver) {
             tell(keeping, status);
         }
@@ -109,7 +117,6 @@ static void reap(struct keeping *keeping) {
  * parent has ended.
  */
 static void end_all(struct keeping *keeping) {
-    look(keeping);
     if (is_child(keeping->solver)) {
         (void)kill(-keeping->solver, SIGKILL); /* it fails where all have left the group */
     }
@@ -120,13 +127,16 @@ static void end_all(struct keeping *keeping) {
 
 /* Until the life pipe ends, which is never written to. `waiting` lets nothing through but a child's end. */
 static void keep(struct keeping *keeping, const sigset_t *waiting) {
+    static const struct timespec NO_TIME = {0};
     bool lives = true;
+    bool has_more = true; /* children that have ended, perhaps */
     while (lives) {
         fd_set ready;
         FD_ZERO(&ready);
         FD_SET(LIFE, &ready);
-        lives = pselect(LIFE + 1, &ready, NULL, NULL, NULL, waiting) < 0 && errno == EINTR;
-        look(keeping);
+        int count = pselect(LIFE + 1, &ready, NULL, NULL, has_more ? &NO_TIME : NULL, waiting);
+        lives = count == 0 || (count < 0 && errno == EINTR);
+        has_more = lives && look(keeping);
     }
 }
 
@@ -136,8 +146,8 @@ static void wake(int signal) {
 }
 
 /*
- * In a session of its own no signal of a terminal reaches the keeper, and no other signal is let through: it ends by its pipe, and not by its
- * name either. Orphans of the solver's are to become its children.
+ * In a session of its own no signal of a terminal reaches the keeper, and no other one is let through: it ends by its pipe. Nor is it meant
+ * where somebody ends the program by its name. Orphans of the solver's are to become its children.
  */
 static bool prepare(sigset_t *waiting) {
     sigset_t all;

@@ -1,4 +1,7 @@
-/* A solver's process, in a group of its own, with a pipe for each of its three streams, and a keeper that ends it however this program ends. */
+/*
+ * A solver's process, in a group of its own, with a pipe for each of its three streams, and with a keeper, which ends it however this
+ * program ends.
+ */
 #ifndef PROCESS_H
 #define PROCESS_H
 

@@ -25,8 +25,8 @@ void signals_watch(int life, pid_t keeper) {
 }
 
 /*
- * The handler is set for one time only and does not hold its signal back: the one raised here ends the program at once, and so does a second
- * one that comes while the keeper is waited for. The keeper does its work either way.
+ * The handler is set for one time only and does not hold its signal back: the one raised here ends the program at once, and so does one
+ * that comes again while the keeper is waited for. The keeper does its work either way.
  */
 static void end_watched(int signal) {
     int life = watched_life;

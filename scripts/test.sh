@@ -17,7 +17,7 @@ library
 
 part 'the host, with z3, cvc5 and solvers that fail'
 # Under valgrind all is slower: the samples and the solvers that fail, fewer bytes, and more patience.
-valgrind_host="valgrind -q --error-exitcode=99 --leak-check=full --errors-for-leak-kinds=definite,indirect,possible --child-silent-after-fork=yes target/host/leskofar"
+valgrind_host="valgrind -q --error-exitcode=99 --leak-check=full --errors-for-leak-kinds=definite,indirect,possible --child-silent-after-fork=yes --suppressions=tests/valgrind.supp target/host/leskofar"
 if host_built; then
     compiled tests/scan.c target/host/scan host/scan.c
     counted 'host' tests/host.sh

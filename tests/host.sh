@@ -143,7 +143,7 @@ hangs() { # solver [text...]
     seconds=$ENOUGH
 }
 
-for group in ${PARTS:-usage samples faults attacks limits plans}; do
+for group in ${PARTS:-usage samples faults attacks limits kills stack engines plans}; do
     . "tests/host/$group.sh"
 done
 

@@ -1,0 +1,52 @@
+# The deepest books that there are, with little stack and with much: the host does not end in a signal.
+
+make --no-print-directory target/host/deepest >"$out" 2>&1 || { cat "$out"; exit 1; }
+mkdir -p "$work/deepest"
+target/host/deepest "$work/deepest" >"$work/deepest/list" || exit 1
+
+# These books have neither sound names nor sound sorts, only depth.
+raw=
+$HOST prove --help | grep -q -e --raw-names && raw='--raw-names --raw-sorts'
+
+# The KiB that a shell can give a program for its stack.
+LITTLE=256
+MUCH=65536
+
+deep() { # KiB of stack, arguments...
+    kib=$1
+    shift
+    # The limit is for this one run.
+    (
+        ulimit -S -s "$kib" || exit 1
+        run "$@"
+        exit "$status"
+    )
+    status=$?
+    expect "$* with $kib KiB of stack" 0
+}
+
+while read -r deepest node term; do
+    for kib in $LITTLE $MUCH; do
+        # The flags are meant to fall apart.
+        # shellcheck disable=SC2086
+        deep "$kib" check "$deepest" $raw
+        deep "$kib" print "$deepest" "$term"
+        deep "$kib" print "$deepest" "$term" --lines
+        # shellcheck disable=SC2086
+        deep "$kib" prove "$deepest" "$node" "$term" 0 "$term" --solver tests/solvers/proves_all.sh $raw
+    done
+done <"$work/deepest/list"
+
+# Without memory for it the host says so.
+book_of siblings
+case $HOST in
+    *sanitized*) ;; # it has no use for a limit of its addresses
+    *)
+        (
+            ulimit -S -v 5000 || exit 1
+            run check "$work/siblings.book"
+            exit "$status"
+        )
+        status=$?
+        expect 'no memory for the stack' 2 'the system gives no thread with 3072 KiB of stack' ;;
+esac
