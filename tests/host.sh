@@ -141,7 +141,7 @@ hangs() { # solver [text...]
     seconds=$ENOUGH
 }
 
-for group in ${PARTS:-usage samples faults limits plans}; do
+for group in ${PARTS:-usage names sorts samples faults limits plans}; do
     . "tests/host/$group.sh"
 done
 
