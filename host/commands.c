@@ -1,8 +1,12 @@
 #include "commands.h"
 
 #include "book_file.h"
+#include "book_view.h"
+#include "names.h"
 #include "refusals.h"
+#include "sentence.h"
 #include "show.h"
+#include "sorts.h"
 
 #include <inttypes.h>
 #include <stdio.h>
@@ -22,6 +26,39 @@ bool command_accepted(const char *path, uint32_t refusal) {
     return refusal == LESKOFAR_ACCEPTED;
 }
 
+/* Tells what a check found, as a warning or not, and answers whether the command goes on. */
+static bool goes_on(const char *path, bool is_good, struct bytes *complaint, bool is_raw) {
+    if (!is_good) {
+        complain("%s: %s%.*s", path, is_raw ? "warning: " : "", sentence_length(complaint), sentence_text(complaint));
+    }
+    bytes_free(complaint);
+    return is_good || is_raw;
+}
+
+bool command_names(const char *path, const struct bytes *book, bool is_raw) {
+    struct bytes complaint = {0};
+    bool is_good = names_check(book, &complaint);
+    return goes_on(path, is_good, &complaint, is_raw);
+}
+
+bool command_sorts(const char *path, const struct bytes *book, bool is_raw) {
+    struct bytes complaint = {0};
+    bool is_good = sorts_check(book, &complaint);
+    return goes_on(path, is_good, &complaint, is_raw);
+}
+
+bool command_goals(const char *path, const struct bytes *book, const uint32_t *terms, size_t count, bool is_raw) {
+    struct bytes complaint = {0};
+    bool is_good = true;
+    for (size_t i = 0; i < count && is_good; i++) {
+        is_good = terms[i] >= book_count(book, SECTION_TERMS) || sorts_is_truth(book, terms[i]);
+        if (!is_good) {
+            sentence_add(&complaint, "term %" PRIu32 " is asked as a goal, and must be Bool for that", terms[i]);
+        }
+    }
+    return goes_on(path, is_good, &complaint, is_raw);
+}
+
 /* The operands are as many as the command takes. */
 static bool has_operands(const struct operands *operands, size_t count, const char *usage) {
     if (operands->count != count) {
@@ -35,11 +72,18 @@ static enum status status_of(bool is_done) {
     return is_done && is_shown ? STATUS_DONE : STATUS_REFUSED;
 }
 
+static const char CHECK_USAGE[] = "leskofar check BOOK [--raw-names] [--raw-sorts]";
+
 enum status command_check(int count, char **arguments) {
     struct operands words;
     struct writer writer = {0};
-    bool is_done = options_read(count, arguments, NULL, 0, &words) && has_operands(&words, 1, "leskofar check BOOK") &&
-                   command_open(&writer, words.at[0]) && command_accepted(words.at[0], writer_test_book(&writer));
+    bool has_raw_names = false;
+    bool has_raw_sorts = false;
+    const struct option options[] = {{.name = "--raw-names", .flag = &has_raw_names}, {.name = "--raw-sorts", .flag = &has_raw_sorts}};
+    bool is_done = options_read(count, arguments, options, sizeof options / sizeof options[0], &words) &&
+                   has_operands(&words, 1, CHECK_USAGE) && command_open(&writer, words.at[0]) &&
+                   command_accepted(words.at[0], writer_test_book(&writer)) &&
+                   command_names(words.at[0], &writer.book, has_raw_names) && command_sorts(words.at[0], &writer.book, has_raw_sorts);
     if (is_done) {
         (void)printf("%s: a good book\n", words.at[0]);
     }

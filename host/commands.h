@@ -19,4 +19,12 @@ bool command_open(struct writer *writer, const char *path);
 /* Whether a call was accepted; a refusal is told with its number and meaning. */
 bool command_accepted(const char *path, uint32_t refusal);
 
+/*
+ * Whether a book that passes the book test has good names, good sorts, and goals that can be true or false. Where `is_raw` is given the
+ * first that is bad only gets a warning, and the answer is true. A term that is not in the book is left to the library, which refuses it.
+ */
+bool command_names(const char *path, const struct bytes *book, bool is_raw);
+bool command_sorts(const char *path, const struct bytes *book, bool is_raw);
+bool command_goals(const char *path, const struct bytes *book, const uint32_t *terms, size_t count, bool is_raw);
+
 #endif

@@ -14,10 +14,16 @@ const char HELP_PROGRAM[] =
     "wrong usage; 3 the solver failed. Of several the largest is given.\n";
 
 const char HELP_CHECK[] =
-    "usage: leskofar check BOOK\n"
+    "usage: leskofar check BOOK [--raw-names] [--raw-sorts]\n"
     "\n"
     "Tests a book, a file that `plan book` writes. A bad one gets the number of its\n"
-    "refusal and what it means.\n"
+    "refusal and what it means. Then looks at the names: each must be one token of\n"
+    "SMT-LIB, and no other's. Then at the sorts and the numbers of arguments, of all\n"
+    "operators of SMT-LIB's core and integers, and of functions; other operators are\n"
+    "not checked. The first fault is told, with the number of its record.\n"
+    "\n"
+    "  --raw-names   a bad name only gets a warning\n"
+    "  --raw-sorts   a bad sort or number of arguments only gets a warning\n"
     "\n"
     "Exit status: 0 a good book; 2 a bad one, or wrong usage.\n";
 

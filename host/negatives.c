@@ -1,31 +1,27 @@
 #include "negatives.h"
 
+#include "book_view.h"
+
 #include <inttypes.h>
 #include <stdio.h>
 
-/* The book's layout: a table of pairs (offset, count), the terms' pair among them, and a term's kind with the two halves of an integer. */
-enum { NUMBER_SIZE = 4, PAIR_SIZE = 8, TERMS_PAIR = 7, TERM_SIZE = 28, INTEGER_KIND = 1 };
-
 /* The longest definition: its words, and two numbers of at most 20 letters. */
-enum { MOST_DEFINITION = 80 };
-
-static uint32_t number_at(const uint8_t *bytes) {
-    return (uint32_t)bytes[0] | (uint32_t)bytes[1] << 8 | (uint32_t)bytes[2] << 16 | (uint32_t)bytes[3] << 24;
-}
+enum { MOST_DEFINITION = 80, HALF_BITS = 32 };
 
 /* How far below zero the integer of a term is; 0 where it is not below or the term is no integer. */
-static uint64_t below_zero(const uint8_t *term) {
-    if (number_at(term) != INTEGER_KIND) {
+static uint64_t below_zero(const struct bytes *book, uint32_t term) {
+    if (book_term_kind(book, term) != TERM_INTEGER) {
         return 0;
     }
-    uint64_t value = (uint64_t)number_at(term + 2 * NUMBER_SIZE) << 32 | number_at(term + NUMBER_SIZE);
+    uint64_t high = book_term_field(book, term, INTEGER_HIGH);
+    uint64_t value = high << HALF_BITS | book_term_field(book, term, INTEGER_LOW);
     return value > INT64_MAX ? 0 - value : 0;
 }
 
 /* Whether one of the terms before `end` has the same number. */
-static bool stands_before(const uint8_t *terms, size_t end, uint64_t magnitude) {
-    for (size_t i = 0; i < end; i++) {
-        if (below_zero(terms + i * TERM_SIZE) == magnitude) {
+static bool stands_before(const struct bytes *book, uint32_t end, uint64_t magnitude) {
+    for (uint32_t term = 0; term < end; term++) {
+        if (below_zero(book, term) == magnitude) {
             return true;
         }
     }
@@ -39,12 +35,10 @@ static bool define(uint64_t magnitude, struct bytes *text) {
 }
 
 bool negatives_define(const struct bytes *book, struct bytes *text) {
-    const uint8_t *pair = book->at + (size_t)TERMS_PAIR * PAIR_SIZE;
-    const uint8_t *terms = book->at + number_at(pair);
-    size_t count = number_at(pair + NUMBER_SIZE);
-    for (size_t i = 0; i < count; i++) {
-        uint64_t magnitude = below_zero(terms + i * TERM_SIZE);
-        if (magnitude != 0 && !stands_before(terms, i, magnitude) && !define(magnitude, text)) {
+    uint32_t count = book_count(book, SECTION_TERMS);
+    for (uint32_t term = 0; term < count; term++) {
+        uint64_t magnitude = below_zero(book, term);
+        if (magnitude != 0 && !stands_before(book, term, magnitude) && !define(magnitude, text)) {
             return false;
         }
     }

@@ -143,7 +143,7 @@ hangs() { # solver [text...]
     seconds=$ENOUGH
 }
 
-for group in ${PARTS:-usage samples faults attacks limits kills stack engines plans}; do
+for group in ${PARTS:-usage names sorts verdicts samples faults attacks limits kills stack engines mutants splices plans}; do
     . "tests/host/$group.sh"
 done
 

@@ -1,0 +1,58 @@
+# Random books, good and bad: host and plan tool, written apart from the same rules, say the same of their names and sorts.
+
+VERDICTS=${VERDICTS:-300}
+VERDICTS_SEED=${VERDICTS_SEED:-20260111}
+# The tool's statuses for a good book and a bad one; the host's for a bad one is 2.
+PLAN_BAD=1
+HOST_BAD=2
+
+mkdir -p "$work/verdicts"
+"$TOOLS/books" "$work/verdicts" "$VERDICTS" "$VERDICTS_SEED" || exit 1
+
+good_count=0
+bad_count=0
+# Looks at one book with some flags.
+verdict() { # number [flag...]
+    number=$1
+    shift
+    judged=$work/verdicts/$number.book
+    run check "$judged" "$@"
+    timeout "$HANGS_AFTER" "$TOOLS/plan" check "$judged" "$@" >"$work/plan.out" 2>"$work/plan.err" </dev/null
+    case $status.$? in
+        0.0) good_count=$((good_count + 1)) ;;
+        "$HOST_BAD.$PLAN_BAD") bad_count=$((bad_count + 1)) ;;
+        *)
+            cp "$judged" "target/log/verdict-$number.book" 2>/dev/null
+            fail "book $number of seed $VERDICTS_SEED with flags '$*'" "host: $(cat "$out" "$err") plan: $(cat "$work/plan.out" "$work/plan.err")"
+            return
+            ;;
+    esac
+    passed=$((passed + 1))
+}
+
+# All books with some flags. A verdict that hardly ever comes is not tried by them.
+verdicts() { # [flag...]
+    good_count=0
+    bad_count=0
+    number=1
+    while [ "$number" -le "$VERDICTS" ]; do
+        verdict "$number" "$@"
+        number=$((number + 1))
+    done
+    echo "$VERDICTS books with flags '$*': $good_count good, $bad_count bad"
+}
+
+is_tried() { # name count
+    [ $((10 * $2)) -ge "$VERDICTS" ] && passed=$((passed + 1)) || fail "$1" "only $2 of $VERDICTS books"
+}
+
+for flag in '' --raw-names --raw-sorts; do
+    # shellcheck disable=SC2086
+    verdicts $flag
+    is_tried "good books with flags '$flag'" "$good_count"
+    is_tried "bad books with flags '$flag'" "$bad_count"
+done
+
+# With both flags everything goes, with a warning from each for what each has found.
+verdicts --raw-names --raw-sorts
+[ "$bad_count" -eq 0 ] && passed=$((passed + 1)) || fail 'books with both flags' "$bad_count are refused"
