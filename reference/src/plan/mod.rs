@@ -2,24 +2,32 @@
 //! book with goals and written from a book. docs/PLAN.md describes it.
 
 mod binder;
+mod check;
+mod complaint;
 mod cursor;
 mod error;
 mod handles;
 mod item_order;
 mod layout;
 mod lexer;
+mod names;
 mod nesting;
 mod packing;
 mod parser;
 mod scope;
+mod signatures;
+mod sorts;
 mod storage;
 mod syntax;
 mod term_binder;
 mod term_parser;
 mod term_writer;
+mod tokens;
 mod words;
 mod writer;
 
+pub use check::check_book;
+pub use complaint::{Complaint, Record};
 pub use error::{PlanError, Position};
 pub use writer::write;
 
