@@ -155,14 +155,6 @@ pub fn symbol(text: &str) -> String {
     }
 }
 
-/// The name that the solver sees: the given one, else the plan's own.
-pub fn solver_name(text: &str, given: Option<&str>) -> String {
-    match given {
-        Some(given) => given.into(),
-        None => symbol(text),
-    }
-}
-
 /// The symbol whose name would be `name`, if there is one.
 pub fn symbol_of_name(name: &str) -> Option<&str> {
     let barred = name.strip_prefix(BAR).and_then(|n| n.strip_suffix(BAR));

@@ -2,7 +2,7 @@
 
 use crate::samples::path;
 use leskofar_reference::maker::sample;
-use leskofar_reference::plan::{read, write};
+use leskofar_reference::plan::{read, write, Options};
 use leskofar_reference::refusal::{meaning, FOREST};
 use std::ffi::OsStr;
 use std::fs;
@@ -36,10 +36,10 @@ fn string(bytes: &[u8]) -> String {
 #[test]
 fn book_and_text() {
     let plan = path("siblings");
-    let book = read(&fs::read(&plan).expect("the sample"))
-        .expect("a plan")
-        .maker
-        .book();
+    let text = fs::read(&plan).expect("the sample");
+    let mut maker = read(&text, Options::default()).expect("a plan").maker;
+    maker.boolean(false);
+    let book = maker.book();
 
     let to_stdout = run(&["book".as_ref(), plan.as_os_str()]);
     assert!(to_stdout.status.success());
