@@ -10,6 +10,7 @@ mod limits;
 mod naive_rules;
 mod names;
 mod noise;
+mod out_files;
 mod prints;
 mod round_trips;
 mod samples;
