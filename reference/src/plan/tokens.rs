@@ -40,7 +40,7 @@ pub fn is_number(name: &[u8]) -> bool {
     if let Some(digits) = name.strip_prefix(BINARY) {
         return is_row(digits, |digit| BINARY_DIGITS.contains(digit));
     }
-    is_numeral_or_decimal(name)
+    is_digits_or_decimal(name) && !has_leading_zero(name)
 }
 
 /// A symbol that some solver takes for a number, or a reader could.
@@ -49,7 +49,7 @@ pub fn looks_like_number(symbol: &[u8]) -> bool {
     let has_prefix = [HEXADECIMAL, BINARY]
         .iter()
         .any(|prefix| symbol.starts_with(prefix));
-    has_prefix || is_numeral_or_decimal(unsigned)
+    has_prefix || is_digits_or_decimal(unsigned)
 }
 
 const HEXADECIMAL: &[u8] = b"#x";
@@ -58,12 +58,17 @@ const BINARY_DIGITS: &[u8] = b"01";
 const POINT: u8 = b'.';
 
 /// Digits, or digits on both sides of a point.
-fn is_numeral_or_decimal(text: &[u8]) -> bool {
+fn is_digits_or_decimal(text: &[u8]) -> bool {
     let is_digits = |part: &[u8]| is_row(part, u8::is_ascii_digit);
     match text.iter().position(|byte| *byte == POINT) {
         None => is_digits(text),
         Some(point) => is_digits(&text[..point]) && is_digits(&text[point + 1..]),
     }
+}
+
+/// The whole part of a number is 0, or begins with another digit.
+fn has_leading_zero(number: &[u8]) -> bool {
+    matches!(number, [b'0', second, ..] if second.is_ascii_digit())
 }
 
 fn is_row(text: &[u8], is_part: impl Fn(&u8) -> bool) -> bool {

@@ -20,8 +20,8 @@ const SIZES: [usize; 4] = [1, 2, 4, 12];
 const SHARE: usize = 10;
 
 /// Names of every sort, right and wrong, and such that clash.
-const NAMES: [&str; 32] = [
-    "x", "|x|", "y", "f", "|a b|", "a b", "", "||", "-5", "|-5|", "5", "1.5", "|1.5|", "#xA",
+const NAMES: [&str; 33] = [
+    "x", "|x|", "y", "f", "|a b|", "a b", "", "||", "-5", "|-5|", "5", "05", "1.5", "|1.5|", "#xA",
     "#b2", "|#b2|", "let", "|exit|", "_", "and", "|not|", "true", "ite", "Int", "Bool", "a:b",
     "|x:int|", "|r:x|", "r", "|", "a\\", "%tag",
 ];

@@ -199,7 +199,11 @@ fn is_one_token(name: &[u8], of: Of) -> bool {
         (Some("#b"), Some(digits)) => {
             !digits.is_empty() && digits.chars().all(|c| "01".contains(c))
         }
-        _ => is_unsigned_number(&text),
+        _ => {
+            let whole = text.split('.').next().unwrap_or_default();
+            let is_written_short = whole == "0" || !whole.starts_with('0');
+            is_unsigned_number(&text) && is_written_short
+        }
     };
     is_symbol || of == Of::BuiltIn && is_number
 }

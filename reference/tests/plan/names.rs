@@ -92,13 +92,15 @@ fn declared_names() {
 #[test]
 fn built_in_operators() {
     let numbers = [
-        "0", "10", "1.50", "#xfF09", "#b0110", "-5", "|-5|", "|#xyz|", "true", "ite", "|=|",
+        "0", "10", "1.50", "0.0", "#xfF09", "#b0110", "-5", "|-5|", "|#xyz|", "true", "ite", "|=|",
     ];
     let good: Vec<&str> = SYMBOLS.iter().chain(&numbers).copied().collect();
     let no_tokens: Vec<&str> = NO_SYMBOLS
         .into_iter()
         .filter(|name| !["1", "#x1"].contains(name))
-        .chain(["#x", "#b", "#b2", "#xg", "1.", ".5.(", "1.2.3", "#", "-#x1"])
+        .chain([
+            "#x", "#b", "#b2", "#xg", "1.", ".5.(", "1.2.3", "00", "007", "01.5", "#", "-#x1",
+        ])
         .collect();
     let item = |name: &str| match name {
         "-" => "(term x (- 1))".into(),
