@@ -8,7 +8,7 @@ use leskofar_reference::chains::{random_chain_plan, MOST_STEPS};
 use leskofar_reference::maker::Maker;
 use leskofar_reference::plan::{check_book, Complaint};
 use leskofar_reference::random::{Random, AT_TIMES, OFTEN, RARELY};
-use leskofar_reference::random_books::{random_book, Counts};
+use leskofar_reference::random_books::{self, random_book};
 
 const SEED: u64 = 20_260_109;
 const BOOKS: usize = 6_000;
@@ -29,52 +29,46 @@ const NAMES: [&str; 33] = [
 /// How often each verdict was met.
 #[derive(Debug, Default)]
 struct Verdicts {
-    right_names: usize,
-    wrong_names: usize,
-    right_sorts: usize,
-    wrong_sorts: usize,
+    names: Counts,
+    sorts: Counts,
+}
+
+#[derive(Debug, Default)]
+struct Counts {
+    right: usize,
+    wrong: usize,
+}
+
+impl Counts {
+    fn note(&mut self, is_right: bool) {
+        self.right += usize::from(is_right);
+        self.wrong += usize::from(!is_right);
+    }
 }
 
 impl Verdicts {
     fn compare(&mut self, book: &[u8]) {
         let program = check(book).expect("the book passes");
         let complaints = check_book(book).expect("the book passes");
-        let records = |is_meant: fn(&Complaint) -> bool| -> Vec<String> {
-            let meant = complaints.iter().filter(|complaint| is_meant(complaint));
-            meant
-                .map(|complaint| complaint.record.to_string())
-                .collect()
-        };
-        let (names, sorts) = (
-            records(Complaint::is_of_names),
-            records(Complaint::is_of_sorts),
-        );
-        assert_eq!(names, wrong_names(&program), "{program:?}");
-        assert_eq!(sorts, wrong_sorts(&program), "{program:?}");
-        *if names.is_empty() {
-            &mut self.right_names
-        } else {
-            &mut self.wrong_names
-        } += 1;
-        *if sorts.is_empty() {
-            &mut self.right_sorts
-        } else {
-            &mut self.wrong_sorts
-        } += 1;
+        let (names, sorts): (Vec<&Complaint>, Vec<&Complaint>) = complaints
+            .iter()
+            .partition(|complaint| complaint.is_of_names());
+        assert_eq!(records(&names), wrong_names(&program), "{program:?}");
+        assert_eq!(records(&sorts), wrong_sorts(&program), "{program:?}");
+        self.names.note(names.is_empty());
+        self.sorts.note(sorts.is_empty());
     }
 
     fn assert_met(&self, books: usize) {
-        let Verdicts {
-            right_names,
-            wrong_names,
-            right_sorts,
-            wrong_sorts,
-        } = *self;
-        let least = books / SHARE;
-        for verdict in [right_names, wrong_names, right_sorts, wrong_sorts] {
-            assert!(verdict >= least, "{self:?}");
+        for Counts { right, wrong } in [&self.names, &self.sorts] {
+            assert!(*right.min(wrong) >= books / SHARE, "{self:?}");
         }
     }
+}
+
+fn records(complaints: &[&Complaint]) -> Vec<String> {
+    let record = |complaint: &&Complaint| complaint.record.to_string();
+    complaints.iter().map(record).collect()
 }
 
 /// Gives the records names of their own, and now and then one of `NAMES`.
@@ -117,7 +111,7 @@ fn random_books() {
     let mut verdicts = Verdicts::default();
     for number in 0..BOOKS {
         let size = SIZES[number % SIZES.len()];
-        let counts = Counts::random(&mut random, size);
+        let counts = random_books::Counts::random(&mut random, size);
         let mut maker = random_book(&mut random, counts);
         match random.below(AT_TIMES) {
             0 => {}
