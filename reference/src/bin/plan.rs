@@ -1,29 +1,45 @@
-//! The tool for readable plans: a plan's text to its book, and back.
+//! The tool for readable plans: a plan's text to its book, and back, and the
+//! names and sorts of a book.
 #![deny(warnings)]
 
 use leskofar_reference::book_test::check;
-use leskofar_reference::plan::{read, write, Goal};
+use leskofar_reference::plan::files::{leads_to, write_whole};
+use leskofar_reference::plan::{add_false, check_book, read, write, Complaint, Goal, Options};
 use leskofar_reference::refusal::meaning;
 use std::env::args_os;
 use std::ffi::OsString;
-use std::fs;
-use std::io::{self, Write};
+use std::fs::File;
+use std::io::{self, Read, Write};
 use std::path::{Path, PathBuf};
 use std::process::ExitCode;
 
 const HELP: &str = "\
-usage: plan book FILE [-o OUT] [--goals]
+usage: plan book FILE [-o OUT] [--goals] [--raw-names] [--raw-sorts]
        plan text BOOK [-o OUT]
+       plan check BOOK [--raw-names] [--raw-sorts]
        plan --help
 
 plan book reads a plan and writes its book to standard output, or to OUT.
 With --goals it also prints a line NODE TERM NAME for each goal: to standard
-output if the book goes to OUT, else to standard error.
+output if the book goes to OUT, else to standard error. Where the plan has no
+term `false`, the book gets one behind all others.
 
 plan text reads a book and writes it as a plan to standard output, or to OUT.
 
-Exit status: 0 done; 1 a plan's text is bad, or the book test refuses a book;
-2 wrong usage, or a file can't be read or written.
+plan check tests a book that came from elsewhere, and prints a line for each
+name that is not one token to a solver or clashes with another, and for each
+term with wrong sorts or a wrong number of arguments. plan book refuses such
+plans.
+
+--raw-names and --raw-sorts let these rules go: the first complaint is a
+warning on standard error.
+
+OUT is written beside and renamed when it is whole. It may not be the file
+that is read.
+
+Exit status: 0 done; 1 a plan's text is bad, the book test refuses a book, or
+its names or sorts are wrong; 2 wrong usage, or a file can't be read or
+written.
 ";
 
 /// Exit statuses.
@@ -44,11 +60,22 @@ impl Failure {
         }
     }
 
-    fn file(path: &Path, error: io::Error) -> Failure {
+    fn file(path: &Path, error: impl std::fmt::Display) -> Failure {
         Failure {
             status: WRONG_USAGE,
             message: format!("{}: {error}\n", path.display()),
         }
+    }
+
+    fn input(path: &Path, why: impl std::fmt::Display) -> Failure {
+        Failure {
+            status: BAD_INPUT,
+            message: format!("{}: {why}\n", path.display()),
+        }
+    }
+
+    fn refused(path: &Path, number: u32) -> Failure {
+        Failure::input(path, format!("refused {number}: {}", meaning(number)))
     }
 }
 
@@ -56,6 +83,7 @@ impl Failure {
 enum Command {
     Book,
     Text,
+    Check,
 }
 
 struct Call {
@@ -63,6 +91,7 @@ struct Call {
     file: PathBuf,
     out: Option<PathBuf>,
     goals: bool,
+    options: Options,
 }
 
 fn main() -> ExitCode {
@@ -87,6 +116,7 @@ fn parsed(arguments: Vec<OsString>) -> Result<Call, Failure> {
     let command = match arguments.next() {
         Some(word) if word == "book" => Command::Book,
         Some(word) if word == "text" => Command::Text,
+        Some(word) if word == "check" => Command::Check,
         Some(word) => {
             let why = format!("there is no command {}", word.display());
             return Err(Failure::usage(&why));
@@ -94,8 +124,9 @@ fn parsed(arguments: Vec<OsString>) -> Result<Call, Failure> {
         None => return Err(Failure::usage("a command is missing")),
     };
     let (mut file, mut out, mut goals) = (None, None, false);
+    let mut options = Options::default();
     while let Some(argument) = arguments.next() {
-        if argument == "-o" && out.is_none() {
+        if argument == "-o" && out.is_none() && command != Command::Check {
             let path = arguments.next();
             out = Some(
                 path.ok_or_else(|| Failure::usage("-o needs a file"))?
@@ -103,6 +134,10 @@ fn parsed(arguments: Vec<OsString>) -> Result<Call, Failure> {
             );
         } else if argument == "--goals" && command == Command::Book {
             goals = true;
+        } else if argument == "--raw-names" && command != Command::Text {
+            options.raw_names = true;
+        } else if argument == "--raw-sorts" && command != Command::Text {
+            options.raw_sorts = true;
         } else if file.is_none() && !argument.as_encoded_bytes().starts_with(b"-") {
             file = Some(argument.into());
         } else {
@@ -115,33 +150,96 @@ fn parsed(arguments: Vec<OsString>) -> Result<Call, Failure> {
         file: file.ok_or_else(|| Failure::usage("a file is missing"))?,
         out,
         goals,
+        options,
     })
 }
 
 fn run(call: &Call) -> Result<(), Failure> {
-    let bytes = fs::read(&call.file).map_err(|error| Failure::file(&call.file, error))?;
-    let bad_input = |why: String| Failure {
-        status: BAD_INPUT,
-        message: format!("{}: {why}\n", call.file.display()),
-    };
-    let refused = |number| bad_input(format!("refused {number}: {}", meaning(number)));
+    let bytes = input(call)?;
     match call.command {
-        Command::Book => {
-            let plan = read(&bytes).map_err(|error| bad_input(error.to_string()))?;
-            let book = plan.maker.book();
-            // A plan that is read makes a good book; that is made sure of
-            // before anybody relies on it.
-            check(&book).map_err(refused)?;
-            put(call.out.as_deref(), &book)?;
-            if call.goals {
-                put_goals(&plan.goals, call.out.is_some())?;
-            }
-            Ok(())
-        }
+        Command::Book => book(call, &bytes),
         Command::Text => {
-            let text = write(&bytes).map_err(refused)?;
+            let text = write(&bytes).map_err(|number| Failure::refused(&call.file, number))?;
             put(call.out.as_deref(), text.as_bytes())
         }
+        Command::Check => check_names_and_sorts(call, &bytes),
+    }
+}
+
+/// The file's bytes. That it is not what will be written is made sure of
+/// before anything is done.
+fn input(call: &Call) -> Result<Vec<u8>, Failure> {
+    let unread = |error| Failure::file(&call.file, error);
+    let mut file = File::open(&call.file).map_err(unread)?;
+    if let Some(out) = &call.out {
+        if leads_to(out, &file).map_err(|error| Failure::file(out, error))? {
+            let why = "this is the file that is read; -o needs another";
+            return Err(Failure::file(out, why));
+        }
+    }
+    let mut bytes = Vec::new();
+    file.read_to_end(&mut bytes).map_err(unread)?;
+    Ok(bytes)
+}
+
+fn book(call: &Call, text: &[u8]) -> Result<(), Failure> {
+    let plan = read(text, call.options);
+    let mut plan = plan.map_err(|error| Failure::input(&call.file, error))?;
+    for warning in &plan.warnings {
+        say(&call.file, format!("warning: {warning}"))?;
+    }
+    if !add_false(&mut plan.maker) {
+        let why = "note: no room for a term `false`; whether premises contradict each other \
+                   can't be asked";
+        say(&call.file, why.into())?;
+    }
+    let book = plan.maker.book();
+    // A plan that is read makes a good book; that is made sure of before
+    // anybody relies on it.
+    check(&book).map_err(|number| Failure::refused(&call.file, number))?;
+    put(call.out.as_deref(), &book)?;
+    if call.goals {
+        put_goals(&plan.goals, call.out.is_some())?;
+    }
+    Ok(())
+}
+
+/// Every complaint on a line of its own, or a line that there is none.
+fn check_names_and_sorts(call: &Call, bytes: &[u8]) -> Result<(), Failure> {
+    let complaints = check_book(bytes);
+    let complaints = complaints.map_err(|number| Failure::refused(&call.file, number))?;
+    let is_raw = |complaint: &Complaint| match complaint.is_of_names() {
+        true => call.options.raw_names,
+        false => call.options.raw_sorts,
+    };
+    let (let_go, held): (Vec<_>, Vec<_>) = complaints.into_iter().partition(is_raw);
+    let first_of_names = let_go.iter().find(|complaint| complaint.is_of_names());
+    let first_of_sorts = let_go.iter().find(|complaint| complaint.is_of_sorts());
+    for complaint in [first_of_names, first_of_sorts].into_iter().flatten() {
+        say(&call.file, format!("warning: {complaint}"))?;
+    }
+    if held.is_empty() {
+        let line = format!("{}: {}\n", call.file.display(), passed(call.options));
+        return put(None, line.as_bytes());
+    }
+    let lines: String = held
+        .iter()
+        .map(|complaint| format!("{complaint}\n"))
+        .collect();
+    put(None, lines.as_bytes())?;
+    let count = match held.len() {
+        1 => "1 complaint".into(),
+        count => format!("{count} complaints"),
+    };
+    Err(Failure::input(&call.file, count))
+}
+
+fn passed(options: Options) -> &'static str {
+    match (options.raw_names, options.raw_sorts) {
+        (false, false) => "the book passes, and its names and sorts are right",
+        (true, false) => "the book passes, and its sorts are right",
+        (false, true) => "the book passes, and its names are right",
+        (true, true) => "the book passes",
     }
 }
 
@@ -152,15 +250,24 @@ fn put_goals(goals: &[Goal], stdout_is_free: bool) -> Result<(), Failure> {
     if stdout_is_free {
         put(None, lines.as_bytes())
     } else {
-        let written = io::stderr().write_all(lines.as_bytes());
-        written.map_err(|error| Failure::file(Path::new("standard error"), error))
+        put_error(lines.as_bytes())
     }
+}
+
+/// Says something of a file that does not end the tool.
+fn say(file: &Path, what: String) -> Result<(), Failure> {
+    put_error(format!("{}: {what}\n", file.display()).as_bytes())
+}
+
+fn put_error(bytes: &[u8]) -> Result<(), Failure> {
+    let written = io::stderr().write_all(bytes);
+    written.map_err(|error| Failure::file(Path::new("standard error"), error))
 }
 
 /// Writes to a file, or to standard output.
 fn put(out: Option<&Path>, bytes: &[u8]) -> Result<(), Failure> {
     match out {
-        Some(path) => fs::write(path, bytes).map_err(|error| Failure::file(path, error)),
+        Some(path) => write_whole(path, bytes).map_err(|error| Failure::file(path, error)),
         None => {
             let mut stdout = io::stdout().lock();
             let written = stdout.write_all(bytes).and_then(|()| stdout.flush());

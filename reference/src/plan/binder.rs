@@ -4,15 +4,22 @@
 
 use crate::book::NO_TERM;
 use crate::book_test::MOST_DEPTH;
+use crate::maker::Maker;
 use crate::plan::error::{refuse, Position, Result};
 use crate::plan::packing::Packer;
 use crate::plan::scope::{Scope, Symbol};
-use crate::plan::syntax::{Item, ItemKind, Name, Place, Syntax, Term, TermKind};
-use crate::plan::words::solver_name;
-use crate::plan::{Goal, Plan};
+use crate::plan::syntax::{solver_name, Item, ItemKind, Name, Place, Syntax, Term, TermKind};
+use crate::plan::Goal;
 use std::collections::HashMap;
 
-pub fn bind(syntax: &Syntax) -> Result<Plan> {
+/// A plan's book and goals, and the number of the term at each place.
+pub struct Bound {
+    pub maker: Maker,
+    pub goals: Vec<Goal>,
+    pub numbers: Vec<u32>,
+}
+
+pub fn bind(syntax: &Syntax) -> Result<Bound> {
     let mut binder = Binder {
         scope: Scope::of(syntax)?,
         packer: Packer::default(),
@@ -29,9 +36,10 @@ pub fn bind(syntax: &Syntax) -> Result<Plan> {
         binder.item(item)?;
     }
     binder.check_listings()?;
-    Ok(Plan {
+    Ok(Bound {
         maker: binder.packer.maker,
         goals: binder.goals,
+        numbers: binder.numbers,
     })
 }
 
@@ -138,8 +146,8 @@ impl<'p> Binder<'p> {
     }
 
     /// The number of the name that the solver sees.
-    fn solver_name(&mut self, name: &Name, given: &Option<String>) -> u32 {
-        let seen = solver_name(&name.text, given.as_deref());
+    fn solver_name(&mut self, name: &Name, given: &Option<Name>) -> u32 {
+        let seen = solver_name(name, given.as_ref());
         self.packer.name(&seen)
     }
 

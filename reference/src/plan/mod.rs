@@ -2,28 +2,42 @@
 //! book with goals and written from a book. docs/PLAN.md describes it.
 
 mod binder;
+mod check;
+mod complaint;
 mod cursor;
 mod error;
+mod falsehood;
+pub mod files;
 mod handles;
 mod item_order;
 mod layout;
 mod lexer;
+mod names;
 mod nesting;
 mod packing;
 mod parser;
+mod places;
 mod scope;
+mod signatures;
+mod sorts;
 mod storage;
 mod syntax;
 mod term_binder;
 mod term_parser;
 mod term_writer;
+mod tokens;
 mod words;
 mod writer;
 
+pub use check::check_book;
+pub use complaint::{Complaint, Record};
 pub use error::{PlanError, Position};
+pub use falsehood::add_false;
 pub use writer::write;
 
+use crate::book_test;
 use crate::maker::Maker;
+use places::Places;
 
 /// What a text holds: a book that passes the book test, and the goals, which
 /// are no part of it.
@@ -31,6 +45,24 @@ use crate::maker::Maker;
 pub struct Plan {
     pub maker: Maker,
     pub goals: Vec<Goal>,
+    /// Where rules were let go, the first complaint by those of names and by
+    /// those of sorts.
+    pub warnings: Vec<PlanError>,
+}
+
+/// Rules that are let go: of names, and of sorts and numbers of arguments.
+#[derive(Clone, Copy, Debug, Default, PartialEq, Eq)]
+pub struct Options {
+    pub raw_names: bool,
+    pub raw_sorts: bool,
+}
+
+impl Options {
+    /// What every book has a text by.
+    pub const RAW: Options = Options {
+        raw_names: true,
+        raw_sorts: true,
+    };
 }
 
 /// A question: does the term hold at the node?
@@ -41,7 +73,43 @@ pub struct Goal {
     pub term: u32,
 }
 
-pub fn read(text: &[u8]) -> Result<Plan, PlanError> {
-    let plan = parser::parse(text).and_then(|syntax| binder::bind(&syntax));
-    plan.map_err(|error| *error)
+pub fn read(text: &[u8], options: Options) -> Result<Plan, PlanError> {
+    checked_plan(text, options).map_err(|error| *error)
+}
+
+fn checked_plan(text: &[u8], options: Options) -> error::Result<Plan> {
+    let syntax = parser::parse(text)?;
+    let bound = binder::bind(&syntax)?;
+    let book = bound.maker.book();
+    let program = match book_test::check(&book) {
+        Ok(program) => program,
+        // The binder lets no such book through; if it did, nothing is said
+        // of its names and sorts.
+        Err(number) => {
+            let found = format!("refusal {number}");
+            return error::refuse(Position::START, "a plan whose book passes the test", found);
+        }
+    };
+    let goals = bound.goals.iter().map(|goal| goal.term as usize);
+    let rules = [
+        (names::complaints(&program), options.raw_names),
+        (sorts::complaints(&program, goals), options.raw_sorts),
+    ];
+    let places = Places::of(&syntax, &bound.numbers);
+    let mut warnings = Vec::new();
+    for (complaints, is_raw) in rules {
+        let Some(complaint) = complaints.first() else {
+            continue;
+        };
+        let error = places.error(complaint);
+        if !is_raw {
+            return Err(Box::new(error));
+        }
+        warnings.push(error);
+    }
+    Ok(Plan {
+        maker: bound.maker,
+        goals: bound.goals,
+        warnings,
+    })
 }

@@ -92,7 +92,7 @@ fn function(cursor: &mut Cursor, opened: Position) -> Result<ItemKind> {
     let mut keys = vec![NAME_KEY, EXPLAINED_BY_KEY];
     while let Some(key) = cursor.attribute(opened, &mut keys)? {
         if key == NAME_KEY {
-            given = Some(cursor.string("the name as a string")?);
+            given = Some(name_in_string(cursor)?);
         } else {
             explained_by = names(cursor, "an axiom's name")?;
         }
@@ -141,13 +141,19 @@ fn node(cursor: &mut Cursor, opened: Position) -> Result<ItemKind> {
 }
 
 /// The item's end, with `:name` before it or not.
-fn given_name(cursor: &mut Cursor, opened: Position) -> Result<Option<String>> {
+fn given_name(cursor: &mut Cursor, opened: Position) -> Result<Option<Name>> {
     let mut given = None;
     let mut keys = vec![NAME_KEY];
     while cursor.attribute(opened, &mut keys)?.is_some() {
-        given = Some(cursor.string("the name as a string")?);
+        given = Some(name_in_string(cursor)?);
     }
     Ok(given)
+}
+
+fn name_in_string(cursor: &mut Cursor) -> Result<Name> {
+    let at = cursor.at();
+    let text = cursor.string("the name as a string")?;
+    Ok(Name { at, text })
 }
 
 fn names(cursor: &mut Cursor, each: &str) -> Result<Vec<Name>> {

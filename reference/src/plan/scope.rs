@@ -2,10 +2,10 @@
 
 use crate::book::{BOOL, FIRST_USER_TYPE, INT};
 use crate::plan::error::{refuse, Position, Result};
-use crate::plan::syntax::{ItemKind, Name, Syntax, Term};
+use crate::plan::syntax::{solver_name, ItemKind, Name, Syntax, Term};
 use crate::plan::words::{
-    is_operator, is_reserved_node, is_reserved_symbol, is_reserved_type, solver_name, BOOL_TYPE,
-    INT_TYPE, LITERAL_SEPARATOR, ROOT_NODE,
+    is_operator, is_reserved_node, is_reserved_symbol, is_reserved_type, BOOL_TYPE, INT_TYPE,
+    LITERAL_SEPARATOR, ROOT_NODE,
 };
 use crate::program::{SType, ROOT};
 use std::collections::HashMap;
@@ -105,7 +105,7 @@ impl<'p> Scope<'p> {
                 ItemKind::Type { name, given } => {
                     let number = next(&mut types);
                     scope.types.declare(name, number)?;
-                    let seen = solver_name(&name.text, given.as_deref());
+                    let seen = solver_name(name, given.as_ref());
                     scope.types_of_literals.entry(seen).or_insert(number);
                 }
                 ItemKind::Constant { name, typ, .. } => {

@@ -26,6 +26,14 @@ impl Name {
     }
 }
 
+/// The name that the solver sees: the given one, else the plan's own.
+pub fn solver_name(name: &Name, given: Option<&Name>) -> String {
+    match given {
+        Some(given) => given.text.clone(),
+        None => symbol(&name.text),
+    }
+}
+
 /// A term's place in the row of terms.
 pub type Place = usize;
 
@@ -37,8 +45,8 @@ pub struct Item {
     pub terms_end: Place,
 }
 
-/// `given` is the name that the solver is to see, if it is another than the
-/// plan's own.
+/// `given` is the name that the solver is to see, as it stands in its string,
+/// if it is another than the plan's own.
 #[derive(Debug)]
 pub enum ItemKind {
     Letters {
@@ -51,18 +59,18 @@ pub enum ItemKind {
     },
     Type {
         name: Name,
-        given: Option<String>,
+        given: Option<Name>,
     },
     Constant {
         name: Name,
         typ: Name,
-        given: Option<String>,
+        given: Option<Name>,
     },
     Function {
         name: Name,
         inputs: Vec<Name>,
         typ: Name,
-        given: Option<String>,
+        given: Option<Name>,
         explained_by: Vec<Name>,
     },
     Axiom {
@@ -139,6 +147,22 @@ pub struct Variable {
 pub enum Pattern {
     Named(Name),
     InPlace(Vec<Place>),
+}
+
+impl TermKind {
+    /// The children, in the order of the text; of a quantifier the body only.
+    pub fn parts(&self) -> Vec<Place> {
+        match self {
+            TermKind::Boolean(_)
+            | TermKind::Integer(_)
+            | TermKind::Literal { .. }
+            | TermKind::Name(_) => Vec::new(),
+            TermKind::Application { args, .. } | TermKind::BuiltIn { args, .. } => args.clone(),
+            TermKind::IfThenElse(parts) => parts.to_vec(),
+            TermKind::Let { rhs, body, .. } => vec![*rhs, *body],
+            TermKind::Quantifier { body, .. } => vec![*body],
+        }
+    }
 }
 
 impl Term {

@@ -1,6 +1,6 @@
 //! The form's own words, and how names and strings are written.
 
-use crate::operators;
+use crate::plan::signatures::signature;
 
 /// The words that items begin with.
 pub const LETTERS: &str = "letters";
@@ -91,28 +91,30 @@ const SMT_LIB_WORDS: [&str; 43] = [
     "set-logic",
     "set-option",
 ];
-/// Operators of SMT-LIB's core and integers that have no code in a book.
-const MORE_OPERATORS: [&str; 5] = ["distinct", "xor", ">", ">=", "abs"];
 /// What a symbol may hold besides letters and digits, by SMT-LIB.
 const SYMBOL_SIGNS: &[u8] = b"~!@$%^&*_-+=<>.?/";
 
-const BAR: char = '|';
+pub const BAR: char = '|';
 const BACKSLASH: char = '\\';
 const QUOTE: char = '"';
 
 /// An operator that may stand without `builtin`. Only these may, so that a
 /// misspelt function is not taken for an operator.
 pub fn is_operator(text: &str) -> bool {
-    operators::NAMES.contains(&text.as_bytes()) || MORE_OPERATORS.contains(&text)
+    signature(text.as_bytes()).is_some()
 }
 
 /// What no constant, function or term can be called in a plan.
 pub fn is_reserved_symbol(text: &str) -> bool {
-    TERM_WORDS.contains(&text) || is_operator(text) || SMT_LIB_WORDS.contains(&text)
+    TERM_WORDS.contains(&text) || is_operator(text) || is_smt_lib_word(text)
 }
 
 pub fn is_reserved_type(text: &str) -> bool {
-    [BOOL_TYPE, INT_TYPE].contains(&text) || SMT_LIB_WORDS.contains(&text)
+    [BOOL_TYPE, INT_TYPE].contains(&text) || is_smt_lib_word(text)
+}
+
+pub fn is_smt_lib_word(text: &str) -> bool {
+    SMT_LIB_WORDS.contains(&text)
 }
 
 pub fn is_reserved_node(text: &str) -> bool {
@@ -150,14 +152,6 @@ pub fn symbol(text: &str) -> String {
         text.to_string()
     } else {
         format!("{BAR}{text}{BAR}")
-    }
-}
-
-/// The name that the solver sees: the given one, else the plan's own.
-pub fn solver_name(text: &str, given: Option<&str>) -> String {
-    match given {
-        Some(given) => given.into(),
-        None => symbol(text),
     }
 }
 

@@ -1,9 +1,9 @@
 //! Bad texts: where the error is, what was expected and what was found.
 
-use leskofar_reference::plan::{read, PlanError};
+use leskofar_reference::plan::{read, Options, PlanError};
 
 pub fn error(text: &str) -> PlanError {
-    read(text.as_bytes()).expect_err(text)
+    read(text.as_bytes(), Options::default()).expect_err(text)
 }
 
 /// Each line of a table has line and column, the first words of what was

@@ -4,12 +4,14 @@
 use leskofar_reference::book::{BOOL, INT};
 use leskofar_reference::book_test::check;
 use leskofar_reference::maker::Maker;
-use leskofar_reference::plan::{read, Goal, Plan};
+use leskofar_reference::plan::{read, Goal, Options, Plan};
 use leskofar_reference::script;
 use leskofar_reference::script::{ASK, MOVE};
 
+/// The forms are tried by themselves, whatever the rules say of their names
+/// and sorts.
 fn plan(text: &str) -> Plan {
-    read(text.as_bytes()).unwrap_or_else(|error| panic!("{error}"))
+    read(text.as_bytes(), Options::RAW).unwrap_or_else(|error| panic!("{error}"))
 }
 
 /// The text's book holds the same program as the one made by hand.

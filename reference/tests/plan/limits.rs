@@ -4,14 +4,17 @@
 use crate::bad_texts::error;
 use leskofar_reference::book::Section;
 use leskofar_reference::book_test::MOST_DEPTH;
-use leskofar_reference::plan::read;
+use leskofar_reference::plan::{read, Options};
 
 /// Items, one to a line, of which one more than the section's most is too
 /// many.
 fn assert_limit(section: Section, what: &str, item: impl Fn(usize) -> String) {
     let most = section.most();
     let text = |count: usize| (0..count).map(&item).collect::<Vec<_>>().join("\n");
-    assert!(read(text(most).as_bytes()).is_ok(), "{what}");
+    assert!(
+        read(text(most).as_bytes(), Options::default()).is_ok(),
+        "{what}"
+    );
     let error = error(&text(most + 1));
     assert_eq!(error.at.line, most + 1, "{error}");
     let expected = format!("at most {most} {what} in a book");
@@ -44,7 +47,7 @@ fn depth() {
         _ => format!("(node n{n} n{} true)\n", n - 1),
     };
     let chain = |depth: usize| (1..=depth).map(node).collect::<String>();
-    assert!(read(chain(MOST_DEPTH).as_bytes()).is_ok());
+    assert!(read(chain(MOST_DEPTH).as_bytes(), Options::default()).is_ok());
     let error = error(&chain(MOST_DEPTH + 1));
     assert_eq!((error.at.line, error.at.column), (MOST_DEPTH + 1, 7));
     assert_eq!(error.expected, "a node at most 64 deep");
@@ -59,7 +62,7 @@ fn nesting() {
         format!("(term t {opened}true{closed})")
     };
     let most = Section::Terms.most();
-    assert!(read(nested(most).as_bytes()).is_ok());
+    assert!(read(nested(most).as_bytes(), Options::default()).is_ok());
     let error = error(&nested(most + 1));
     assert_eq!(error.expected, "at most 1024 terms in each other");
     let column = "(term t ".len() + "(not ".len() * most + 1;

@@ -3,11 +3,16 @@
 
 mod bad_texts;
 mod chains;
+mod checked_books;
 mod evaluation;
 mod forms;
 mod limits;
+mod naive_rules;
+mod names;
 mod noise;
+mod out_files;
 mod prints;
 mod round_trips;
 mod samples;
+mod sorts;
 mod tool;

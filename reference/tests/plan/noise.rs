@@ -3,7 +3,7 @@
 
 use crate::round_trips::round_trip;
 use crate::samples::samples;
-use leskofar_reference::plan::{read, write, PlanError};
+use leskofar_reference::plan::{check_book, read, write, Options, Plan, PlanError};
 use leskofar_reference::random::{Random, AT_TIMES};
 use leskofar_reference::random_books::{random_book, Counts};
 
@@ -19,14 +19,29 @@ const BOOKS: usize = 300;
 const BOOK_SIZE: usize = 4;
 
 /// Reads a text; an error's place lies in it, or just behind it.
-fn try_text(text: &[u8]) -> Result<(), PlanError> {
-    let plan = read(text).inspect_err(|error| {
+fn read_text(text: &[u8], options: Options) -> Result<Plan, PlanError> {
+    read(text, options).inspect_err(|error| {
         let lines: Vec<&[u8]> = text.split(|byte| *byte == b'\n').collect();
         let line = lines.get(error.at.line - 1).expect("the line is there");
         assert!((1..=line.len() + 1).contains(&error.at.column), "{error}");
         assert!(!error.expected.is_empty() && !error.found.is_empty());
-    })?;
-    round_trip(&plan.maker.book());
+    })
+}
+
+/// Reads a text with and without the rules of names and sorts. With them it
+/// is taken if they have no complaint, and the goals are of the right sort.
+fn try_text(text: &[u8]) -> Result<(), PlanError> {
+    let plan = read_text(text, Options::RAW)?;
+    let book = plan.maker.book();
+    let complaints = check_book(&book).expect("a plan's book passes");
+    match read_text(text, Options::default()) {
+        Ok(plan) => assert!(complaints.is_empty() && plan.warnings.is_empty()),
+        Err(error) => {
+            assert_eq!(plan.warnings.first(), Some(&error));
+            assert!(!complaints.is_empty() || error.expected.ends_with("as a goal"));
+        }
+    }
+    round_trip(&book);
     Ok(())
 }
 

@@ -6,7 +6,7 @@ use leskofar_reference::book::kind;
 use leskofar_reference::book_test::{check, SCRATCH_SIZE};
 use leskofar_reference::maker::Maker;
 use leskofar_reference::operators;
-use leskofar_reference::plan::read;
+use leskofar_reference::plan::{read, Options};
 use leskofar_reference::print;
 use leskofar_reference::program::{Program, RExpr, SType};
 use leskofar_reference::random::Random;
@@ -154,7 +154,10 @@ fn assert_prints_read_back(book: &[u8]) {
     for term in 0..program.terms.len() {
         for (newlines, indent) in LAYOUTS {
             let print = with_tags(&printed(book, term, newlines, indent));
-            let plan = read(format!("{items}\n(goal g root {print})").as_bytes());
+            let plan = read(
+                format!("{items}\n(goal g root {print})").as_bytes(),
+                Options::RAW,
+            );
             let plan = plan.unwrap_or_else(|error| panic!("{error} in {print}"));
             let again = plan.maker.book();
             let read_program = check(&again).expect("a plan's book passes");
@@ -178,7 +181,7 @@ fn prints_of_random_terms() {
 #[test]
 fn prints_of_the_samples() {
     for (_, text) in samples() {
-        let plan = read(&text).expect("a good plan");
+        let plan = read(&text, Options::default()).expect("a good plan");
         assert_prints_read_back(&plan.maker.book());
     }
 }

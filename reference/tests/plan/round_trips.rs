@@ -3,7 +3,7 @@
 use leskofar_reference::book::{kind, Section, BOOL, INT, NO_TERM};
 use leskofar_reference::book_test::check;
 use leskofar_reference::maker::{sample, small, Maker};
-use leskofar_reference::plan::{read, write};
+use leskofar_reference::plan::{read, write, Options};
 use leskofar_reference::random::Random;
 use leskofar_reference::random_books::{random_book, Counts};
 use leskofar_reference::refusal::{meaning, CONTENTS, DEPTH};
@@ -16,7 +16,7 @@ const BOOKS_AT_LIMITS: usize = 20;
 /// Writes a book as text, reads it and compares the programs; gives the text.
 pub fn round_trip(book: &[u8]) -> String {
     let text = write(book).expect("the book passes");
-    let plan = match read(text.as_bytes()) {
+    let plan = match read(text.as_bytes(), Options::RAW) {
         Ok(plan) => plan,
         Err(error) => panic!("{error} in\n{text}"),
     };

@@ -3,7 +3,7 @@
 use crate::evaluation::follows;
 use crate::round_trips::round_trip;
 use leskofar_reference::book_test::check;
-use leskofar_reference::plan::{read, Goal, Plan};
+use leskofar_reference::plan::{read, Goal, Options, Plan};
 use std::collections::BTreeSet;
 use std::fs;
 use std::path::PathBuf;
@@ -75,7 +75,7 @@ pub fn samples() -> Vec<(&'static str, Vec<u8>)> {
 }
 
 fn plan(text: &[u8]) -> Plan {
-    read(text).unwrap_or_else(|error| panic!("{error}"))
+    read(text, Options::default()).unwrap_or_else(|error| panic!("{error}"))
 }
 
 #[test]
