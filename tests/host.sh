@@ -6,6 +6,7 @@
 #   PLANS     how many made plans z3 is asked, and OTHER_PLANS how many cvc5
 #   PARTS     which of the groups in tests/host/
 #   PATIENCE  how many seconds a silent solver gets
+#   SPLICES   how many runs have a real solver's answers spoilt
 #   STEP      how many bytes lie between two at which a solver dies
 #   LARGE     how many bytes the large model has
 #
@@ -16,7 +17,10 @@ HOST=${HOST:-target/host/leskofar}
 TOOLS=${TOOLS:-reference/target/release}
 PLANS=${PLANS:-500}
 OTHER_PLANS=${OTHER_PLANS:-50}
+SPLICES=${SPLICES:-1000}
 PATIENCE=${PATIENCE:-1}
+# One that spoils answers ends by itself; this only keeps a run from hanging.
+SPLICE_PATIENCE=10
 STEP=${STEP:-2}
 # No run takes longer, whatever its solver does.
 HANGS_AFTER=120
@@ -141,7 +145,7 @@ hangs() { # solver [text...]
     seconds=$ENOUGH
 }
 
-for group in ${PARTS:-usage samples faults limits plans}; do
+for group in ${PARTS:-usage samples faults limits plans splices}; do
     . "tests/host/$group.sh"
 done
 
