@@ -28,6 +28,7 @@ judge_splice() { # seed
     is_good=yes
     [ "$asked" = '3 4 3 1 ' ] || fail "splice $1" "answered were $asked"
     ! grep -q '^node [41], term 34: Proved' "$at.out" || fail "splice $1" 'a wrong Proved'
+    ! grep -qF 'no whole answer within' "$at.out" || fail "splice $1" 'an ended solver was waited for'
     case $(cat "$at.status") in
         1) untouched=$((untouched + 1)) ;;
         3) spoilt=$((spoilt + 1)) ;;

@@ -68,6 +68,16 @@ const WAYS: [Way; 14] = [
     Way::BytesFlipped,
     Way::BrokenOff,
 ];
+/// Where nothing was asked there is no text to spoil.
+const WAYS_AT_FENCE: [Way; 7] = [
+    Way::PieceBefore,
+    Way::PieceBehindMark,
+    Way::MarkDropped,
+    Way::MarkDoubled,
+    Way::OtherMark,
+    Way::BytesFlipped,
+    Way::BrokenOff,
+];
 /// How a solver keeps its answer to itself that has written another one
 /// before it was asked.
 const SILENT: [Way; 2] = [Way::TextDropped, Way::HeldBack];
@@ -141,13 +151,13 @@ impl Splicer {
         if self.is_ahead && chunk.is_answer && self.random.one_in(OFTEN) {
             return Some(self.random.pick(&SILENT));
         }
-        let chance = if chunk.is_answer {
-            TOUCHED
+        let (chance, ways) = if chunk.is_answer {
+            (TOUCHED, &WAYS[..])
         } else {
-            FENCE_TOUCHED
+            (FENCE_TOUCHED, &WAYS_AT_FENCE[..])
         };
         let is_touched = self.random.one_in(chance);
-        is_touched.then(|| self.random.pick(&WAYS))
+        is_touched.then(|| self.random.pick(ways))
     }
 
     /// The chunk with what was held back, changed in a way.
