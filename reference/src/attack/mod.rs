@@ -2,8 +2,10 @@
 //! answers spoilt at random, and plans changed at random. What a plan means is
 //! worked out here by itself, from docs/PLAN.md, apart from `crate::plan`.
 
+pub mod box_plans;
 pub mod evaluation;
 pub mod meaning;
+pub mod mutations;
 pub mod names;
 pub mod readable;
 pub mod recorded;
