@@ -7,6 +7,8 @@
 #   PLANS     how many made plans z3 is asked, and OTHER_PLANS how many cvc5
 #   PARTS     which of the groups in tests/host/
 #   PATIENCE  how many seconds a silent solver gets
+#   MUTANTS   how many plans are changed at random, by MUTANTS_SEED
+#   SPLICES   how many runs have a real solver's answers spoilt
 #   STEP      how many bytes lie between two at which a solver dies
 #   LARGE     how many bytes the large model has
 #
@@ -18,7 +20,14 @@ UNRANDOM_HOST=${UNRANDOM_HOST:-target/host/leskofar-unrandom}
 TOOLS=${TOOLS:-reference/target/release}
 PLANS=${PLANS:-500}
 OTHER_PLANS=${OTHER_PLANS:-50}
+MUTANTS=${MUTANTS:-2000}
+MUTANTS_SEED=${MUTANTS_SEED:-20260109}
+# A changed quantifier may keep a solver busy for ever.
+MUTANT_PATIENCE=2
+SPLICES=${SPLICES:-1000}
 PATIENCE=${PATIENCE:-1}
+# One that spoils answers ends by itself; this only keeps a run from hanging.
+SPLICE_PATIENCE=10
 STEP=${STEP:-2}
 # No run takes longer, whatever its solver does.
 HANGS_AFTER=120

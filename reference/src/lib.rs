@@ -2,6 +2,7 @@
 //! bodies. The public calls are plain functions on byte slices and numbers.
 #![deny(warnings)]
 
+pub mod attack;
 pub mod book;
 pub mod book_test;
 pub mod chains;

@@ -1,0 +1,199 @@
+//! Random plans of boxes, as text: what a person would write.
+
+use crate::random::{Random, AT_TIMES, OFTEN, RARELY};
+
+const LEAST_BOXES: usize = 2;
+const MOST_BOXES: usize = 4;
+const MOST_NODES: usize = 5;
+const MOST_GOALS: usize = 4;
+/// Numbers run from 0 to this.
+const MOST_NUMBER: usize = 9;
+const HUES: [&str; 3] = ["red", "blue", "green"];
+
+/// The constant that terms bind, and the function that no axiom explains.
+const BOUND: &str = "k";
+const FUNCTION: &str = "way";
+const NAMED: &str = "kept";
+
+pub fn random_box_plan(random: &mut Random) -> String {
+    let mut writer = Writer {
+        boxes: LEAST_BOXES + random.up_to(MOST_BOXES - LEAST_BOXES),
+        has_hues: random.one_in(OFTEN),
+        has_function: random.one_in(AT_TIMES),
+        random,
+    };
+    let mut text = writer.declarations();
+    let nodes = 2 + writer.random.up_to(MOST_NODES - 2);
+    for node in 1..=nodes {
+        let parent = writer.node_above(node);
+        let premise = writer.premise(1 + (node - 1) % writer.boxes);
+        text += &format!("(node n{node} {parent} {premise})\n");
+    }
+    let goal = writer.limit();
+    text += &format!("(term {NAMED} {goal})\n");
+    for goal in 0..=writer.random.below(MOST_GOALS) {
+        let node = writer.random.up_to(nodes);
+        let node = writer.node_name(nodes - node / 2);
+        let term = writer.goal();
+        text += &format!("(goal g{goal} {node} {term})\n");
+    }
+    text
+}
+
+struct Writer<'r> {
+    random: &'r mut Random,
+    boxes: usize,
+    has_hues: bool,
+    has_function: bool,
+}
+
+impl Writer<'_> {
+    /// In random order, since the solver gets them as they are met.
+    fn declarations(&mut self) -> String {
+        let mut lines: Vec<String> = (1..=self.boxes)
+            .map(|number| format!("(constant box_{number} Int)"))
+            .collect();
+        if self.random.one_in(AT_TIMES) {
+            let number = self.random.below(self.boxes);
+            lines[number] = format!("(constant box_{} Int :name \"b.{number}\")", number + 1);
+        }
+        lines.push(format!("(constant {BOUND} Int)"));
+        lines.push("(constant fancy Bool)".into());
+        if self.has_hues {
+            lines.push("(type Shade)".into());
+            lines.push("(constant hue Shade)".into());
+        }
+        if self.has_function {
+            lines.push(format!("(function {FUNCTION} (Int) Int)"));
+        }
+        for end in (1..lines.len()).rev() {
+            lines.swap(end, self.random.up_to(end));
+        }
+        lines.join("\n") + "\n"
+    }
+
+    /// A node's parent: most hang below the one before, the others beside it.
+    fn node_above(&mut self, node: usize) -> String {
+        let above = node - 1;
+        let back = usize::from(above > 0 && self.random.one_in(AT_TIMES));
+        self.node_name(above - back)
+    }
+
+    fn node_name(&self, node: usize) -> String {
+        match node {
+            0 => "root".into(),
+            _ => format!("n{node}"),
+        }
+    }
+
+    fn number(&mut self) -> usize {
+        self.random.up_to(MOST_NUMBER)
+    }
+
+    fn a_box(&mut self) -> String {
+        format!("box_{}", 1 + self.random.below(self.boxes))
+    }
+
+    fn hue(&mut self) -> String {
+        match self.random.pick(&HUES) {
+            _ if self.random.one_in(AT_TIMES) => "hue".into(),
+            hue if self.random.one_in(AT_TIMES) => format!("|{hue}:Shade|"),
+            hue => format!("(literal \"{hue}\" Shade)"),
+        }
+    }
+
+    /// What a node says: most often which box a step brings up.
+    fn premise(&mut self, step: usize) -> String {
+        let (a, x, y) = (format!("box_{step}"), self.number(), self.number());
+        let [b, c] = [self.a_box(), self.a_box()];
+        match self.random.below(14) {
+            0..4 => format!("(= {a} {x})"),
+            4 => format!("(and (<= {x} {a}) (<= {a} {}))", x + y % 3),
+            5 => format!("(or (= {a} {x}) (= {a} {y}))"),
+            6 => format!("(< {b} {c})"),
+            7 => format!("(and (=> fancy (= {a} {x})) (or fancy (= {a} {y})))"),
+            8 => format!("(= {a} (ite fancy {x} (+ {b} 1)))"),
+            9 => self.small_range("forall", &format!("(not (= {BOUND} {a}))")),
+            10 => format!("(builtin \"<=\" {a} {x})"),
+            11 => format!("(let (({BOUND} (- {a} {x}))) (= {BOUND} 1))"),
+            12 if self.has_hues => self.hue_premise(),
+            _ => format!("(= {BOUND} {x})"),
+        }
+    }
+
+    fn hue_premise(&mut self) -> String {
+        let [a, b] = [self.hue(), self.hue()];
+        if self.random.one_in(OFTEN) {
+            format!("(= {a} {b})")
+        } else {
+            format!("(not (= {a} {b}))")
+        }
+    }
+
+    /// What is asked.
+    fn goal(&mut self) -> String {
+        let (a, b, x) = (self.a_box(), self.a_box(), self.number());
+        match self.random.below(14) {
+            0..4 => self.limit(),
+            4 => NAMED.into(),
+            5 => format!("(<= {a} {x})"),
+            6 => format!("(not (= {a} {b}))"),
+            7 => format!("(let (({BOUND} (+ {a} {b}))) (<= {BOUND} {x}))"),
+            8 => self.small_range("exists", &format!("(= {BOUND} {a})")),
+            9 => self.small_range("forall", &format!("(< {BOUND} {a})")),
+            10 => format!("(builtin \"or\" fancy (< {a} {x}))"),
+            11 if self.has_hues => self.hue_premise(),
+            12 if self.has_function => format!("(= ({FUNCTION} {a}) ({FUNCTION} {b}))"),
+            _ => format!("(or (< {a} {b}) (<= {b} {a} {x}))"),
+        }
+    }
+
+    /// The boxes of some steps travel at most so far.
+    fn limit(&mut self) -> String {
+        let steps = 2 + self.random.up_to(self.boxes - 2);
+        let distance = |step: usize| {
+            let (a, b) = (format!("box_{step}"), format!("box_{}", step + 1));
+            format!("(ite (< {a} {b}) (- {b} {a}) (- {a} {b}))")
+        };
+        let travel: Vec<String> = (1..steps).map(distance).collect();
+        let limit = self.number();
+        match &travel[..] {
+            [only] if self.random.one_in(RARELY) => format!("(< {only} {limit})"),
+            [only] => format!("(<= {only} {limit})"),
+            _ => format!("(<= (+ {}) {limit})", travel.join(" ")),
+        }
+    }
+
+    fn small_range(&mut self, quantifier: &str, says: &str) -> String {
+        let least = self.random.up_to(2);
+        let most = least + self.random.up_to(4);
+        let range = format!("(<= {least} {BOUND}) (<= {BOUND} {most})");
+        match quantifier {
+            "forall" => format!("(forall (({BOUND} Int)) (=> (and {range}) {says}))"),
+            _ => format!("(exists (({BOUND} Int)) (and {range} {says}))"),
+        }
+    }
+}
+
+#[cfg(test)]
+mod tests {
+    use super::*;
+    use crate::attack::search::{never_proved, Never};
+
+    /// They are plans whose every goal means something, and of many a
+    /// counterexample is known.
+    #[test]
+    fn plans_mean_something() {
+        let mut random = Random::new(1);
+        let mut known = 0;
+        for _ in 0..300 {
+            let text = random_box_plan(&mut random);
+            crate::plan::read(text.as_bytes()).expect("a plan");
+            let never = never_proved(&text).expect("a plan");
+            let has_one = |(_, never): &(String, Never)| *never == Never::HasCounterexample;
+            assert!(never.iter().all(has_one), "{text}");
+            known += never.len();
+        }
+        assert!(known > 200, "{known}");
+    }
+}
