@@ -1,7 +1,6 @@
 #include "commands.h"
 
 #include "book_file.h"
-#include "book_view.h"
 #include "names.h"
 #include "refusals.h"
 #include "sentence.h"
@@ -44,18 +43,6 @@ bool command_names(const char *path, const struct bytes *book, bool is_raw) {
 bool command_sorts(const char *path, const struct bytes *book, bool is_raw) {
     struct bytes complaint = {0};
     bool is_good = sorts_check(book, &complaint);
-    return goes_on(path, is_good, &complaint, is_raw);
-}
-
-bool command_goals(const char *path, const struct bytes *book, const uint32_t *terms, size_t count, bool is_raw) {
-    struct bytes complaint = {0};
-    bool is_good = true;
-    for (size_t i = 0; i < count && is_good; i++) {
-        is_good = terms[i] >= book_count(book, SECTION_TERMS) || sorts_is_truth(book, terms[i]);
-        if (!is_good) {
-            sentence_add(&complaint, "term %" PRIu32 " is asked as a goal, and must be Bool for that", terms[i]);
-        }
-    }
     return goes_on(path, is_good, &complaint, is_raw);
 }
 

@@ -20,11 +20,10 @@ bool command_open(struct writer *writer, const char *path);
 bool command_accepted(const char *path, uint32_t refusal);
 
 /*
- * Whether a book that passes the book test has good names, good sorts, and goals that can be true or false. Where `is_raw` is given the
- * first that is bad only gets a warning, and the answer is true. A term that is not in the book is left to the library, which refuses it.
+ * Whether a book that passes the book test has good names, and good sorts. Where `is_raw` is given the first that is bad only gets a
+ * warning, and the answer is true.
  */
 bool command_names(const char *path, const struct bytes *book, bool is_raw);
 bool command_sorts(const char *path, const struct bytes *book, bool is_raw);
-bool command_goals(const char *path, const struct bytes *book, const uint32_t *terms, size_t count, bool is_raw);
 
 #endif

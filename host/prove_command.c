@@ -1,7 +1,9 @@
 #include "commands.h"
 
+#include "book_view.h"
 #include "new_file.h"
 #include "report.h"
+#include "sorts.h"
 
 #include <errno.h>
 #include <inttypes.h>
@@ -132,10 +134,26 @@ static enum status prove_logged(const struct request *request, struct premises_k
     return status;
 }
 
+/* What is asked must be able to be true or false. A term that is not in the book is left to the library, which refuses it. */
+static bool are_truths(const struct request *request, const struct bytes *book) {
+    for (size_t i = 0; i < request->count; i++) {
+        uint32_t term = request->questions[i].term;
+        if (term < book_count(book, SECTION_TERMS) && !sorts_is_truth(book, term)) {
+            complain("%s: %sterm %" PRIu32 " is asked, and is no truth value", request->book, request->raw_sorts ? "warning: " : "", term);
+            return request->raw_sorts;
+        }
+    }
+    return true;
+}
+
 /* Everything that can be known before a solver is started: false after a complaint. */
 static bool is_sound(const struct request *request, struct premises_known *known, const struct bytes *book) {
     if (request->log != NULL && new_file_is(request->log, request->book)) {
         complain("--log %s is the book, which would be overwritten", request->log);
+        return false;
+    }
+    if (!command_names(request->book, book, request->raw_names) || !command_sorts(request->book, book, request->raw_sorts) ||
+        !are_truths(request, book)) {
         return false;
     }
     if (request->asks_premises && !premises_begin(known, book)) {

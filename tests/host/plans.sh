@@ -11,7 +11,7 @@ esac
 plan() { # number solver
     # shellcheck disable=SC2046
     run prove "$work/chains/$1.book" $(cut -d ' ' -f 1,2 "$work/chains/$1.questions") --solver "$2"
-    sed -n 's/^node \([0-9]*\), term \([0-9]*\): /\1 \2 /p' "$out" >"$work/results"
+    sed -n 's/^node \([0-9]*\), term \([0-9]*\): \([A-Za-z]*\).*/\1 \2 \3/p' "$out" >"$work/results"
     if cmp -s "$work/results" "$work/chains/$1.questions"; then
         passed=$((passed + 1))
     else

@@ -44,7 +44,7 @@ PLAN
     cat >"$work/unread.plan" <<'PLAN'
 (constant x Int)
 (node good root (= x 1))
-(goal strange good (builtin "no such operator" x))
+(goal strange good (builtin "no-such-operator" x))
 (goal sound good (< x 2))
 PLAN
     "$TOOLS/plan" book "$work/unread.plan" -o "$work/unread.book" --goals >"$work/unread.goals" || exit 1

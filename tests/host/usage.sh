@@ -52,7 +52,7 @@ for tag in 0 18446744073709551615; do
     printf '(= (tag_of |red:Shade|) %s)\n' "$tag" >"$work/wanted"
     cmp -s "$out" "$work/wanted" && passed=$((passed + 1)) || fail "print with tag $tag" "another text: $(cat "$out")"
 done
-run print "$book" 35
+run print "$book" 36
 expect 'print of no term' 2 'refused 7: the node or term is not in the book'
 run print "$book" 34 --lines --indent 18446744073709551615
 expect 'print with the largest indent' 2 'refused 10'
