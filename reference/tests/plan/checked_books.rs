@@ -26,6 +26,9 @@ const NAMES: [&str; 33] = [
     "|x:int|", "|r:x|", "r", "|", "a\\", "%tag",
 ];
 
+/// Operators that no signature is known of.
+const UNKNOWN_OPERATORS: [&str; 4] = ["select", "bv2nat", "10", "1.5"];
+
 /// How often each verdict was met.
 #[derive(Debug, Default)]
 struct Verdicts {
@@ -95,7 +98,8 @@ fn rename(random: &mut Random, m: &mut Maker, rate: usize) {
         match m.terms[number][0] {
             kind::CUSTOM_LITERAL => m.terms[number][1] = name(m, "red".into()),
             kind::BUILT_IN => {
-                let operator = OPERATORS[number % OPERATORS.len()];
+                let operators = OPERATORS.iter().chain(&UNKNOWN_OPERATORS);
+                let operator = operators.cycle().nth(number).copied().unwrap_or_default();
                 m.terms[number][1] = name(m, operator.into());
             }
             _ => {}
