@@ -76,6 +76,8 @@ fn records(complaints: &[&Complaint]) -> Vec<String> {
 
 /// Gives the records names of their own, and now and then one of `NAMES`.
 fn rename(random: &mut Random, m: &mut Maker, rate: usize) {
+    let operators = [&OPERATORS[..], &UNKNOWN_OPERATORS].concat();
+    let first = random.below(operators.len());
     let mut name = |m: &mut Maker, own: String| {
         let is_odd = rate > 0 && random.one_in(rate);
         let name = if is_odd {
@@ -98,8 +100,7 @@ fn rename(random: &mut Random, m: &mut Maker, rate: usize) {
         match m.terms[number][0] {
             kind::CUSTOM_LITERAL => m.terms[number][1] = name(m, "red".into()),
             kind::BUILT_IN => {
-                let operators = OPERATORS.iter().chain(&UNKNOWN_OPERATORS);
-                let operator = operators.cycle().nth(number).copied().unwrap_or_default();
+                let operator = operators[(first + number) % operators.len()];
                 m.terms[number][1] = name(m, operator.into());
             }
             _ => {}
