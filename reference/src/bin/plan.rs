@@ -113,25 +113,14 @@ fn main() -> ExitCode {
 
 fn parsed(arguments: Vec<OsString>) -> Result<Call, Failure> {
     let mut arguments = arguments.into_iter();
-    let command = match arguments.next() {
-        Some(word) if word == "book" => Command::Book,
-        Some(word) if word == "text" => Command::Text,
-        Some(word) if word == "check" => Command::Check,
-        Some(word) => {
-            let why = format!("there is no command {}", word.display());
-            return Err(Failure::usage(&why));
-        }
-        None => return Err(Failure::usage("a command is missing")),
-    };
+    let command = command(arguments.next())?;
     let (mut file, mut out, mut goals) = (None, None, false);
     let mut options = Options::default();
     while let Some(argument) = arguments.next() {
         if argument == "-o" && out.is_none() && command != Command::Check {
             let path = arguments.next();
-            out = Some(
-                path.ok_or_else(|| Failure::usage("-o needs a file"))?
-                    .into(),
-            );
+            let path = path.ok_or_else(|| Failure::usage("-o needs a file"))?;
+            out = Some(path.into());
         } else if argument == "--goals" && command == Command::Book {
             goals = true;
         } else if argument == "--raw-names" && command != Command::Text {
@@ -152,6 +141,21 @@ fn parsed(arguments: Vec<OsString>) -> Result<Call, Failure> {
         goals,
         options,
     })
+}
+
+fn command(word: Option<OsString>) -> Result<Command, Failure> {
+    let Some(word) = word else {
+        return Err(Failure::usage("a command is missing"));
+    };
+    match word.to_str() {
+        Some("book") => Ok(Command::Book),
+        Some("text") => Ok(Command::Text),
+        Some("check") => Ok(Command::Check),
+        _ => {
+            let why = format!("there is no command {}", word.display());
+            Err(Failure::usage(&why))
+        }
+    }
 }
 
 fn run(call: &Call) -> Result<(), Failure> {

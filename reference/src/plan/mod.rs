@@ -35,9 +35,7 @@ pub use error::{PlanError, Position};
 pub use falsehood::add_false;
 pub use writer::write;
 
-use crate::book_test;
 use crate::maker::Maker;
-use places::Places;
 
 /// What a text holds: a book that passes the book test, and the goals, which
 /// are no part of it.
@@ -58,7 +56,7 @@ pub struct Options {
 }
 
 impl Options {
-    /// What every book has a text by.
+    /// With both let go, every book can be read again from its text.
     pub const RAW: Options = Options {
         raw_names: true,
         raw_sorts: true,
@@ -80,33 +78,7 @@ pub fn read(text: &[u8], options: Options) -> Result<Plan, PlanError> {
 fn checked_plan(text: &[u8], options: Options) -> error::Result<Plan> {
     let syntax = parser::parse(text)?;
     let bound = binder::bind(&syntax)?;
-    let book = bound.maker.book();
-    let program = match book_test::check(&book) {
-        Ok(program) => program,
-        // The binder lets no such book through; if it did, nothing is said
-        // of its names and sorts.
-        Err(number) => {
-            let found = format!("refusal {number}");
-            return error::refuse(Position::START, "a plan whose book passes the test", found);
-        }
-    };
-    let goals = bound.goals.iter().map(|goal| goal.term as usize);
-    let rules = [
-        (names::complaints(&program), options.raw_names),
-        (sorts::complaints(&program, goals), options.raw_sorts),
-    ];
-    let places = Places::of(&syntax, &bound.numbers);
-    let mut warnings = Vec::new();
-    for (complaints, is_raw) in rules {
-        let Some(complaint) = complaints.first() else {
-            continue;
-        };
-        let error = places.error(complaint);
-        if !is_raw {
-            return Err(Box::new(error));
-        }
-        warnings.push(error);
-    }
+    let warnings = check::check_plan(&syntax, &bound, options)?;
     Ok(Plan {
         maker: bound.maker,
         goals: bound.goals,

@@ -26,6 +26,9 @@ const NAMES: [&str; 33] = [
     "|x:int|", "|r:x|", "r", "|", "a\\", "%tag",
 ];
 
+/// Operators that no signature is known of.
+const UNKNOWN_OPERATORS: [&str; 4] = ["select", "bv2nat", "10", "1.5"];
+
 /// How often each verdict was met.
 #[derive(Debug, Default)]
 struct Verdicts {
@@ -73,6 +76,8 @@ fn records(complaints: &[&Complaint]) -> Vec<String> {
 
 /// Gives the records names of their own, and now and then one of `NAMES`.
 fn rename(random: &mut Random, m: &mut Maker, rate: usize) {
+    let operators = [&OPERATORS[..], &UNKNOWN_OPERATORS].concat();
+    let first = random.below(operators.len());
     let mut name = |m: &mut Maker, own: String| {
         let is_odd = rate > 0 && random.one_in(rate);
         let name = if is_odd {
@@ -95,7 +100,7 @@ fn rename(random: &mut Random, m: &mut Maker, rate: usize) {
         match m.terms[number][0] {
             kind::CUSTOM_LITERAL => m.terms[number][1] = name(m, "red".into()),
             kind::BUILT_IN => {
-                let operator = OPERATORS[number % OPERATORS.len()];
+                let operator = operators[(first + number) % operators.len()];
                 m.terms[number][1] = name(m, operator.into());
             }
             _ => {}

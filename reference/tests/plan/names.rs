@@ -154,73 +154,76 @@ fn error_of_own_bar() -> String {
     error(text).expect("a bar in the text").found
 }
 
+/// Plans with a clash, and what is said of it.
+const CLASHES: [(&str, &str); 13] = [
+    (
+        "(constant x Int)\n(constant y Int :name \"|x|\")",
+        "line 2, column 23: expected a name of its own, found `|x|`, \
+             the name of the constant at line 1, column 11",
+    ),
+    (
+        "(function x () Int :name \"a b\")\n(constant |a b| Int :name \"y\")\n\
+             (function z () Int :name \"y\")",
+        "line 1, column 26: expected a symbol of SMT-LIB, found `a b`",
+    ),
+    (
+        "(function z () Int :name \"y\")\n(constant y Int)",
+        "line 1, column 26: expected a name of its own, found `y`, \
+             the name of the constant at line 2, column 11",
+    ),
+    (
+        "(type Shade)\n(constant |red:Shade| Shade)\n(term t (literal \"red\" Shade))",
+        "line 3, column 9: expected a name of its own, found `|red:Shade|`, \
+             the name of the constant at line 2, column 11",
+    ),
+    (
+        "(function f () Int :name \"|red:int|\")\n(term t (= 1 (literal \"red\" Int)))",
+        "line 2, column 14: expected a name of its own, found `|red:int|`, \
+             the name of the function at line 1, column 26",
+    ),
+    (
+        "(constant select Int)\n(term t (builtin \"select\" 1))",
+        "line 2, column 9: expected a name of its own, found `select`, \
+             the name of the constant at line 1, column 11",
+    ),
+    (
+        "(constant x Int :name \"and\")",
+        "line 1, column 23: expected a name of its own, found `and`, an operator",
+    ),
+    (
+        "(constant x Int :name \"|true|\")",
+        "line 1, column 23: expected a name of its own, found `|true|`, a word of terms",
+    ),
+    (
+        "(type x :name \"Bool\")",
+        "line 1, column 15: expected a name of its own, found `Bool`, a built-in type",
+    ),
+    (
+        "(type x :name \"y\")(type |y|)",
+        "line 1, column 25: expected a name of its own, found `y`, \
+             the name of the type at line 1, column 15",
+    ),
+    (
+        "(type S)(type |b:S|)(type T :name \"b:S\")\n(term t (literal \"a:b\" S))\n\
+             (term u (literal \"a\" T))",
+        "line 1, column 35: expected a symbol of SMT-LIB, found `b:S`",
+    ),
+    (
+        "(term t (literal \"red\" Int))(term u (builtin \"|red:int|\"))",
+        "line 1, column 37: expected a name of its own, found `|red:int|`, \
+             the name of the term at line 1, column 9",
+    ),
+    (
+        "(term u (builtin \"|red:int|\"))(term t (literal \"red\" Int))",
+        "line 1, column 39: expected a name of its own, found `|red:int|`, \
+             the name of the term at line 1, column 9",
+    ),
+];
+
 /// Both places are named.
 #[test]
 fn clashes() {
-    for (text, message) in [
-        (
-            "(constant x Int)\n(constant y Int :name \"|x|\")",
-            "line 2, column 23: expected a name of its own, found `|x|`, \
-             the name of the constant at line 1, column 11",
-        ),
-        (
-            "(function x () Int :name \"a b\")\n(constant |a b| Int :name \"y\")\n\
-             (function z () Int :name \"y\")",
-            "line 1, column 26: expected a symbol of SMT-LIB, found `a b`",
-        ),
-        (
-            "(function z () Int :name \"y\")\n(constant y Int)",
-            "line 1, column 26: expected a name of its own, found `y`, \
-             the name of the constant at line 2, column 11",
-        ),
-        (
-            "(type Shade)\n(constant |red:Shade| Shade)\n(term t (literal \"red\" Shade))",
-            "line 3, column 9: expected a name of its own, found `|red:Shade|`, \
-             the name of the constant at line 2, column 11",
-        ),
-        (
-            "(function f () Int :name \"|red:int|\")\n(term t (= 1 (literal \"red\" Int)))",
-            "line 2, column 14: expected a name of its own, found `|red:int|`, \
-             the name of the function at line 1, column 26",
-        ),
-        (
-            "(constant select Int)\n(term t (builtin \"select\" 1))",
-            "line 2, column 9: expected a name of its own, found `select`, \
-             the name of the constant at line 1, column 11",
-        ),
-        (
-            "(constant x Int :name \"and\")",
-            "line 1, column 23: expected a name of its own, found `and`, an operator",
-        ),
-        (
-            "(constant x Int :name \"|true|\")",
-            "line 1, column 23: expected a name of its own, found `|true|`, a word of terms",
-        ),
-        (
-            "(type x :name \"Bool\")",
-            "line 1, column 15: expected a name of its own, found `Bool`, a built-in type",
-        ),
-        (
-            "(type x :name \"y\")(type |y|)",
-            "line 1, column 25: expected a name of its own, found `y`, \
-             the name of the type at line 1, column 15",
-        ),
-        (
-            "(type S)(type |b:S|)(type T :name \"b:S\")\n(term t (literal \"a:b\" S))\n\
-             (term u (literal \"a\" T))",
-            "line 1, column 35: expected a symbol of SMT-LIB, found `b:S`",
-        ),
-        (
-            "(term t (literal \"red\" Int))(term u (builtin \"|red:int|\"))",
-            "line 1, column 37: expected a name of its own, found `|red:int|`, \
-             the name of the term at line 1, column 9",
-        ),
-        (
-            "(term u (builtin \"|red:int|\"))(term t (literal \"red\" Int))",
-            "line 1, column 39: expected a name of its own, found `|red:int|`, \
-             the name of the term at line 1, column 9",
-        ),
-    ] {
+    for (text, message) in CLASHES {
         assert_eq!(error(text).expect(text).to_string(), message);
     }
 }

@@ -119,48 +119,51 @@ fn other_operators() {
     assert!(!is_taken("(term x (+ 1 (ite b s (builtin \"x\"))))"));
 }
 
+/// Terms, and whether their sorts are right.
+const TERMS: [(&str, bool); 38] = [
+    ("(f i s)", true),
+    ("(f 1 (h true))", true),
+    ("(f g (literal \"red\" S))", true),
+    ("(f i)", false),
+    ("(f i s s)", false),
+    ("(f s i)", false),
+    ("(f i t)", false),
+    ("(f i b)", false),
+    ("f", false),
+    ("(g i)", false),
+    ("(h (= i g))", true),
+    ("(h g)", false),
+    ("(= s (literal \"red\" S))", true),
+    ("(= s (literal \"red\" T))", false),
+    ("(= i (literal \"red\" Int))", true),
+    ("(= b (literal \"red\" Int))", false),
+    ("(= i %tag)", true),
+    ("(= b %tag)", false),
+    ("(literal \"%tag\" S)", false),
+    ("(= i (literal \"%tag\" Int))", true),
+    ("(ite b i 1)", true),
+    ("(ite b s s)", true),
+    ("(ite i i i)", false),
+    ("(ite b i s)", false),
+    ("(ite b s t)", false),
+    ("(+ 1 (ite b i 1))", true),
+    ("(+ 1 (ite b b true))", false),
+    ("(let ((i 1)) s)", true),
+    ("(let ((i b)) s)", false),
+    ("(let ((s t)) s)", false),
+    ("(+ 1 (let ((b true)) i))", true),
+    ("(+ 1 (let ((i 1)) b))", false),
+    ("(forall ((i Int)) b)", true),
+    ("(exists ((i Int)) i)", false),
+    ("(forall () i)", false),
+    ("(forall ((i Int)) (! b :pattern (i s) :pattern ()))", true),
+    ("(not (exists () b))", true),
+    ("(+ 1 (exists () b))", false),
+];
+
 #[test]
 fn every_kind_of_term() {
-    for (term, is_right) in [
-        ("(f i s)", true),
-        ("(f 1 (h true))", true),
-        ("(f g (literal \"red\" S))", true),
-        ("(f i)", false),
-        ("(f i s s)", false),
-        ("(f s i)", false),
-        ("(f i t)", false),
-        ("(f i b)", false),
-        ("f", false),
-        ("(g i)", false),
-        ("(h (= i g))", true),
-        ("(h g)", false),
-        ("(= s (literal \"red\" S))", true),
-        ("(= s (literal \"red\" T))", false),
-        ("(= i (literal \"red\" Int))", true),
-        ("(= b (literal \"red\" Int))", false),
-        ("(= i %tag)", true),
-        ("(= b %tag)", false),
-        ("(literal \"%tag\" S)", false),
-        ("(= i (literal \"%tag\" Int))", true),
-        ("(ite b i 1)", true),
-        ("(ite b s s)", true),
-        ("(ite i i i)", false),
-        ("(ite b i s)", false),
-        ("(ite b s t)", false),
-        ("(+ 1 (ite b i 1))", true),
-        ("(+ 1 (ite b b true))", false),
-        ("(let ((i 1)) s)", true),
-        ("(let ((i b)) s)", false),
-        ("(let ((s t)) s)", false),
-        ("(+ 1 (let ((b true)) i))", true),
-        ("(+ 1 (let ((i 1)) b))", false),
-        ("(forall ((i Int)) b)", true),
-        ("(exists ((i Int)) i)", false),
-        ("(forall () i)", false),
-        ("(forall ((i Int)) (! b :pattern (i s) :pattern ()))", true),
-        ("(not (exists () b))", true),
-        ("(+ 1 (exists () b))", false),
-    ] {
+    for (term, is_right) in TERMS {
         assert_eq!(is_taken(&format!("(term x {term})")), is_right, "{term}");
     }
     for (sort, is_right) in [("b", true), ("i", false), ("s", false)] {
@@ -187,75 +190,78 @@ fn a_limit_in_the_sum() {
     assert_eq!(error.to_string(), message);
 }
 
+/// Items behind the declared ones, and what is said of them.
+const MESSAGES: [(&str, &str); 16] = [
+    (
+        "(term x (+ 1\n  (not i)))",
+        "line 4, column 8: expected `Bool` as argument 1 of `not`, found `Int`",
+    ),
+    (
+        "(term x (+ 1 b))",
+        "line 3, column 14: expected `Int` as argument 2 of `+`, found `Bool`",
+    ),
+    (
+        "(term x (= i 2\n(ite b s s)))",
+        "line 4, column 1: expected `Int`, like argument 1 of `=`, found `S`",
+    ),
+    (
+        "(term x (mod 1 2 3))",
+        "line 3, column 9: expected 2 arguments of `mod`, found 3",
+    ),
+    (
+        "(term x (abs 1 2))",
+        "line 3, column 9: expected 1 argument of `abs`, found 2",
+    ),
+    (
+        "(term x (- (f i)))",
+        "line 3, column 12: expected 2 arguments of `f`, found 1",
+    ),
+    (
+        "(term x (f i t))",
+        "line 3, column 14: expected `S` as argument 2 of `f`, found `T`",
+    ),
+    (
+        "(term x (ite i 1 2))",
+        "line 3, column 14: expected `Bool` as the guard of `ite`, found `Int`",
+    ),
+    (
+        "(term x (ite b 1 s))",
+        "line 3, column 18: expected `Int`, like the other branch of `ite`, found `S`",
+    ),
+    (
+        "(term x (let ((s 1)) b))",
+        "line 3, column 18: expected `S`, the type of `s`, found `Int`",
+    ),
+    (
+        "(term x (exists ((i Int)) 7))",
+        "line 3, column 27: expected `Bool` as the body of `exists`, found `Int`",
+    ),
+    (
+        "(term x (literal \"%tag\" S))",
+        "line 3, column 9: expected `Int` as the type of `%tag`, found `S`",
+    ),
+    (
+        "(node n root i)",
+        "line 3, column 14: expected `Bool` as a node's premise, found `Int`",
+    ),
+    (
+        "(axiom a s)",
+        "line 3, column 10: expected `Bool` as an axiom, found `S`",
+    ),
+    (
+        "(term x 7)(goal n root\n x)",
+        "line 4, column 2: expected `Bool` as a goal, found `Int`",
+    ),
+    // Where a named term is used, not where it stands.
+    (
+        "(term x 7)\n(term y (not\n x))",
+        "line 5, column 2: expected `Bool` as argument 1 of `not`, found `Int`",
+    ),
+];
+
 #[test]
 fn places_and_messages() {
-    for (items, message) in [
-        (
-            "(term x (+ 1\n  (not i)))",
-            "line 4, column 8: expected `Bool` as argument 1 of `not`, found `Int`",
-        ),
-        (
-            "(term x (+ 1 b))",
-            "line 3, column 14: expected `Int` as argument 2 of `+`, found `Bool`",
-        ),
-        (
-            "(term x (= i 2\n(ite b s s)))",
-            "line 4, column 1: expected `Int`, like argument 1 of `=`, found `S`",
-        ),
-        (
-            "(term x (mod 1 2 3))",
-            "line 3, column 9: expected 2 arguments of `mod`, found 3",
-        ),
-        (
-            "(term x (abs 1 2))",
-            "line 3, column 9: expected 1 argument of `abs`, found 2",
-        ),
-        (
-            "(term x (- (f i)))",
-            "line 3, column 12: expected 2 arguments of `f`, found 1",
-        ),
-        (
-            "(term x (f i t))",
-            "line 3, column 14: expected `S` as argument 2 of `f`, found `T`",
-        ),
-        (
-            "(term x (ite i 1 2))",
-            "line 3, column 14: expected `Bool` as the guard of `ite`, found `Int`",
-        ),
-        (
-            "(term x (ite b 1 s))",
-            "line 3, column 18: expected `Int`, like the other branch of `ite`, found `S`",
-        ),
-        (
-            "(term x (let ((s 1)) b))",
-            "line 3, column 18: expected `S`, the type of `s`, found `Int`",
-        ),
-        (
-            "(term x (exists ((i Int)) 7))",
-            "line 3, column 27: expected `Bool` as the body of `exists`, found `Int`",
-        ),
-        (
-            "(term x (literal \"%tag\" S))",
-            "line 3, column 9: expected `Int` as the type of `%tag`, found `S`",
-        ),
-        (
-            "(node n root i)",
-            "line 3, column 14: expected `Bool` as a node's premise, found `Int`",
-        ),
-        (
-            "(axiom a s)",
-            "line 3, column 10: expected `Bool` as an axiom, found `S`",
-        ),
-        (
-            "(term x 7)(goal n root\n x)",
-            "line 4, column 2: expected `Bool` as a goal, found `Int`",
-        ),
-        // Where a named term is used, not where it stands.
-        (
-            "(term x 7)\n(term y (not\n x))",
-            "line 5, column 2: expected `Bool` as argument 1 of `not`, found `Int`",
-        ),
-    ] {
+    for (items, message) in MESSAGES {
         let error = error(&format!("{DECLARED}{items}"));
         assert_eq!(error.to_string(), message);
     }

@@ -194,7 +194,7 @@ fn raw_names_and_sorts() {
 }
 
 #[test]
-fn check_a_book() {
+fn check_a_good_book() {
     let good = written("good_to_check.book", &sample().maker.book());
     let answer = run(&[OsStr::new("check"), good.as_ref()]);
     assert_eq!(answer.status.code(), Some(0));
@@ -204,7 +204,10 @@ fn check_a_book() {
     );
     assert_eq!(string(&answer.stdout), line);
     assert_eq!(answer.stderr, b"");
+}
 
+#[test]
+fn complaints_of_a_book() {
     let mut maker = sample().maker;
     maker.constant("x", 0);
     maker.user_type("");
