@@ -6,10 +6,10 @@ mkdir -p "$work/mutants"
 
 # One plan to its book, and all of its goals to z3. What came of it goes into N.result.
 try_mutant() { # where
-    if ! "$TOOLS/plan" book "$1.plan" -o "$1.book" --goals >"$1.goals" 2>"$1.err"; then
+    "$TOOLS/plan" book "$1.plan" -o "$1.book" --goals >"$1.goals" 2>"$1.err" || {
         echo "plan $?"
         return
-    fi
+    }
     pairs=
     while read -r node term _; do
         pairs="$pairs $node $term"
