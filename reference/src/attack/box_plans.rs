@@ -120,7 +120,7 @@ impl Writer<'_> {
             8 => format!("(= {a} (ite fancy {x} (+ {b} 1)))"),
             9 => self.small_range("forall", &format!("(not (= {BOUND} {a}))")),
             10 => format!("(builtin \"<=\" {a} {x})"),
-            11 => format!("(let (({BOUND} (- {a} {x}))) (= {BOUND} 1))"),
+            11 => format!("(let (({BOUND} (+ {b} {x}))) (< {a} {BOUND}))"),
             _ => format!("(= {BOUND} {x})"),
         }
     }
@@ -147,7 +147,7 @@ impl Writer<'_> {
             4 => NAMED.into(),
             5 => format!("(<= {a} {x})"),
             6 => format!("(not (= {a} {b}))"),
-            7 => format!("(let (({BOUND} (+ {a} {b}))) (<= {BOUND} {x}))"),
+            7 => format!("(let (({BOUND} (+ {a} {x}))) (<= {b} {BOUND}))"),
             8 => self.small_range("exists", &format!("(= {BOUND} {a})")),
             9 => self.small_range("forall", &format!("(< {BOUND} {a})")),
             10 => format!("(builtin \"or\" fancy (< {a} {x}))"),

@@ -29,7 +29,8 @@ pub enum Way {
     TypeRenamed,
 }
 
-pub const WAYS: [Way; 15] = [
+/// The most rewarding stand twice.
+pub const WAYS: [Way; 17] = [
     Way::Dropped,
     Way::Doubled,
     Way::Swapped,
@@ -38,8 +39,10 @@ pub const WAYS: [Way; 15] = [
     Way::LimitInSum,
     Way::NumberChanged,
     Way::NameOfAnother,
+    Way::NameOfAnother,
     Way::BadName,
     Way::BoundRenamed,
+    Way::BoundAsLiteral,
     Way::BoundAsLiteral,
     Way::HungElsewhere,
     Way::OperatorChanged,
@@ -303,7 +306,7 @@ impl Mutation<'_> {
     /// have. The one that is bound is the most rewarding.
     fn give_name(&mut self, name: &str) -> Option<()> {
         let mut item = self.item(&["constant", "type", "function"])?;
-        if self.random.one_in(OFTEN) {
+        if !self.random.one_in(AT_TIMES) {
             let bound = self.random.pick(&BOUND);
             let declares_bound = |two: &[String]| two[0] == "constant" && two[1] == bound;
             let begin = self.tokens.windows(2).position(declares_bound)?;
