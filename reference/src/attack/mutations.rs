@@ -109,9 +109,10 @@ const BAD_LITERALS: [&str; 7] = [
     "a\\b",
     "%tag",
 ];
-const BAD_TYPES: [&str; 6] = [
+const BAD_TYPES: [&str; 7] = [
     "|thread kind|",
     "|T)) leskofar-2 unsat leskofar-3|",
+    "|T)) leskofar-3 unsat leskofar-4|",
     "|T)) leskofar-4 unsat leskofar-5|",
     "|Shade (|",
     "|red:Shade|",
