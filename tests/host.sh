@@ -23,7 +23,7 @@ OTHER_PLANS=${OTHER_PLANS:-50}
 MUTANTS=${MUTANTS:-2000}
 MUTANTS_SEED=${MUTANTS_SEED:-20260109}
 # A changed quantifier may keep a solver busy for ever.
-MUTANT_PATIENCE=2
+MUTANT_PATIENCE=1
 SPLICES=${SPLICES:-1000}
 PATIENCE=${PATIENCE:-1}
 # One that spoils answers ends by itself; this only keeps a run from hanging.

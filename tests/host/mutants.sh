@@ -4,12 +4,21 @@
 mkdir -p "$work/mutants"
 "$TOOLS/mutants" "$work/mutants" "$MUTANTS" "$MUTANTS_SEED" || exit 1
 
+# A plan as a book. One that is refused for its names or sorts becomes one all the same: such a book may come from elsewhere, and the
+# host has to find out by itself.
+mutant_book() { # where
+    "$TOOLS/plan" book "$1.plan" -o "$1.book" --goals >"$1.goals" 2>"$1.err" && return
+    status=$?
+    [ "$status" -eq 1 ] || return "$status"
+    "$TOOLS/plan" book "$1.plan" -o "$1.book" --goals --raw-names --raw-sorts >"$1.goals" 2>>"$1.err" || return "$status"
+}
+
 # One plan to its book, and all of its goals to z3. What came of it goes into N.result.
 try_mutant() { # where
-    if ! "$TOOLS/plan" book "$1.plan" -o "$1.book" --goals >"$1.goals" 2>"$1.err"; then
+    mutant_book "$1" || {
         echo "plan $?"
         return
-    fi
+    }
     pairs=
     while read -r node term _; do
         pairs="$pairs $node $term"

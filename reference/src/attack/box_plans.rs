@@ -10,8 +10,9 @@ const MOST_GOALS: usize = 4;
 const MOST_NUMBER: usize = 9;
 const HUES: [&str; 3] = ["red", "blue", "green"];
 
-/// The constant that terms bind, and the function that no axiom explains.
+/// The constants that terms bind, and the function that no axiom explains.
 const BOUND: &str = "k";
+const BOUND_HUE: &str = "tone";
 const FUNCTION: &str = "way";
 const NAMED: &str = "kept";
 
@@ -62,6 +63,7 @@ impl Writer<'_> {
         if self.has_hues {
             lines.push("(type Shade)".into());
             lines.push("(constant hue Shade)".into());
+            lines.push(format!("(constant {BOUND_HUE} Shade)"));
         }
         if self.has_function {
             lines.push(format!("(function {FUNCTION} (Int) Int)"));
@@ -106,7 +108,10 @@ impl Writer<'_> {
     fn premise(&mut self, step: usize) -> String {
         let (a, x, y) = (format!("box_{step}"), self.number(), self.number());
         let [b, c] = [self.a_box(), self.a_box()];
-        match self.random.below(14) {
+        if self.has_hues && self.random.one_in(AT_TIMES) {
+            return self.about_hues();
+        }
+        match self.random.below(13) {
             0..4 => format!("(= {a} {x})"),
             4 => format!("(and (<= {x} {a}) (<= {a} {}))", x + y % 3),
             5 => format!("(or (= {a} {x}) (= {a} {y}))"),
@@ -115,35 +120,40 @@ impl Writer<'_> {
             8 => format!("(= {a} (ite fancy {x} (+ {b} 1)))"),
             9 => self.small_range("forall", &format!("(not (= {BOUND} {a}))")),
             10 => format!("(builtin \"<=\" {a} {x})"),
-            11 => format!("(let (({BOUND} (- {a} {x}))) (= {BOUND} 1))"),
-            12 if self.has_hues => self.hue_premise(),
+            11 => format!("(let (({BOUND} (+ {b} {x}))) (< {a} {BOUND}))"),
             _ => format!("(= {BOUND} {x})"),
         }
     }
 
-    fn hue_premise(&mut self) -> String {
+    fn about_hues(&mut self) -> String {
         let [a, b] = [self.hue(), self.hue()];
-        if self.random.one_in(OFTEN) {
-            format!("(= {a} {b})")
-        } else {
-            format!("(not (= {a} {b}))")
+        match self.random.below(6) {
+            0 | 1 => format!("(= {a} {b})"),
+            2 => format!("(not (= {a} {b}))"),
+            3 => format!("(forall (({BOUND_HUE} Shade)) (= {BOUND_HUE} {a}))"),
+            4 => format!("(exists (({BOUND_HUE} Shade)) (and (= {BOUND_HUE} {a}) (= hue {b})))"),
+            _ => format!("(let (({BOUND_HUE} {a})) (= {BOUND_HUE} {b}))"),
         }
     }
 
     /// What is asked.
     fn goal(&mut self) -> String {
         let (a, b, x) = (self.a_box(), self.a_box(), self.number());
+        if self.has_hues && self.random.one_in(AT_TIMES) {
+            return self.about_hues();
+        }
         match self.random.below(14) {
             0..4 => self.limit(),
             4 => NAMED.into(),
             5 => format!("(<= {a} {x})"),
             6 => format!("(not (= {a} {b}))"),
-            7 => format!("(let (({BOUND} (+ {a} {b}))) (<= {BOUND} {x}))"),
+            7 => format!("(let (({BOUND} (+ {a} {x}))) (<= {b} {BOUND}))"),
             8 => self.small_range("exists", &format!("(= {BOUND} {a})")),
             9 => self.small_range("forall", &format!("(< {BOUND} {a})")),
             10 => format!("(builtin \"or\" fancy (< {a} {x}))"),
-            11 if self.has_hues => self.hue_premise(),
+            11 => format!("(let (({BOUND} (- {a} {b}))) (< -{} {BOUND}))", x + 1),
             12 if self.has_function => format!("(= ({FUNCTION} {a}) ({FUNCTION} {b}))"),
+            13 if self.has_function => format!("(<= 0 ({FUNCTION} {a}))"),
             _ => format!("(or (< {a} {b}) (<= {b} {a} {x}))"),
         }
     }

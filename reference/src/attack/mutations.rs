@@ -29,7 +29,8 @@ pub enum Way {
     TypeRenamed,
 }
 
-pub const WAYS: [Way; 15] = [
+/// The most rewarding stand twice.
+pub const WAYS: [Way; 17] = [
     Way::Dropped,
     Way::Doubled,
     Way::Swapped,
@@ -38,8 +39,10 @@ pub const WAYS: [Way; 15] = [
     Way::LimitInSum,
     Way::NumberChanged,
     Way::NameOfAnother,
+    Way::NameOfAnother,
     Way::BadName,
     Way::BoundRenamed,
+    Way::BoundAsLiteral,
     Way::BoundAsLiteral,
     Way::HungElsewhere,
     Way::OperatorChanged,
@@ -47,9 +50,14 @@ pub const WAYS: [Way; 15] = [
     Way::TypeRenamed,
 ];
 
+/// The constants that plans bind in terms.
+const BOUND: [&str; 2] = ["k", "tone"];
+
+const PRINTED_LITERALS: [&str; 2] = ["|red:Shade|", "|blue:Shade|"];
+
 /// Names for the solver that are none, or are somebody else's. `#` stands for
-/// a box of the plan, `@` for a small number.
-const BAD_NAMES: [&str; 24] = [
+/// a box of the plan, `@` for a number of it.
+const BAD_NAMES: [&str; 26] = [
     "",
     "two words",
     "|two words|",
@@ -72,22 +80,24 @@ const BAD_NAMES: [&str; 24] = [
     "x () Int) (assert (= # @)) (declare-fun y",
     "(as # Int)",
     "(! # :named y)",
-    "|T)) leskofar-@ unsat leskofar-@|",
+    "|T)) leskofar-2 unsat leskofar-3|",
     "x) (check-sat) (echo \"leskofar-@\"",
+    "abs",
+    "-",
 ];
-/// Operators that are none.
+/// Operators that are none. `~` stands for the one that was there.
 const BAD_OPERATORS: [&str; 12] = [
     "",
     "or true",
-    "and true) (or",
-    "= @ @) (and",
-    "<= @",
-    "or (= # @)",
-    "= # #))) (assert (not (or true",
-    "or true))) (assert (not (and",
-    "let ((# @)) <=",
-    "(_ divisible 1) 3) (or",
-    "exists ((# Int)) (<=",
+    "= @ @) (~",
+    "~ @",
+    "= # #) (~",
+    "= # #))) (assert (not (~",
+    "or true))) (assert (not (~",
+    "= # @))) (assert (not (~",
+    "let ((# @)) ~",
+    "(_ divisible 1) 3) (~",
+    "exists ((# Int)) (~",
     "#",
 ];
 const BAD_LITERALS: [&str; 7] = [
@@ -99,9 +109,11 @@ const BAD_LITERALS: [&str; 7] = [
     "a\\b",
     "%tag",
 ];
-const BAD_TYPES: [&str; 5] = [
+const BAD_TYPES: [&str; 7] = [
     "|thread kind|",
-    "|T)) leskofar-@ unsat leskofar-@|",
+    "|T)) leskofar-2 unsat leskofar-3|",
+    "|T)) leskofar-3 unsat leskofar-4|",
+    "|T)) leskofar-4 unsat leskofar-5|",
     "|Shade (|",
     "|red:Shade|",
     "|@|",
@@ -270,24 +282,34 @@ impl Mutation<'_> {
         None
     }
 
-    /// What the solver sees of a random item, or of a literal.
+    /// A name that the solver sees already: of an item, of a literal, or a
+    /// negative number's.
     fn seen_name(&mut self) -> Option<String> {
-        let item = self.item(&["constant", "constant", "type", "function"])?;
+        match self.random.below(8) {
+            0 => return Some(self.random.pick(&PRINTED_LITERALS).into()),
+            1 => return Some(self.filled("-@")),
+            _ => {}
+        }
+        let item = self.item(&["constant", "type", "function"])?;
         let tokens = &self.tokens[item];
-        let given = tokens.iter().position(|token| token == ":name");
-        let name = match given {
-            Some(key) => tokens.get(key + 1)?.trim_matches('"').to_string(),
-            None => tokens.get(1)?.clone(),
+        let name = match tokens.iter().position(|token| token == ":name") {
+            Some(key) => tokens.get(key + 1)?.trim_matches('"'),
+            None => tokens.get(1)?,
         };
-        Some(name)
+        Some(if self.random.one_in(AT_TIMES) {
+            format!("|{name}|")
+        } else {
+            name.into()
+        })
     }
 
     /// Gives an item a name for the solver, instead of the one that it may
     /// have. The one that is bound is the most rewarding.
     fn give_name(&mut self, name: &str) -> Option<()> {
         let mut item = self.item(&["constant", "type", "function"])?;
-        if self.random.one_in(OFTEN) {
-            let declares_bound = |two: &[String]| two[0] == "constant" && two[1] == "k";
+        if !self.random.one_in(AT_TIMES) {
+            let bound = self.random.pick(&BOUND);
+            let declares_bound = |two: &[String]| two[0] == "constant" && two[1] == bound;
             let begin = self.tokens.windows(2).position(declares_bound)?;
             let end = begin + self.tokens[begin..].iter().position(|token| token == ")")?;
             item = begin..end;
@@ -328,9 +350,13 @@ impl Mutation<'_> {
     /// A constant, declared and used, gets the name that a literal is printed
     /// by.
     fn rename_constant_as_literal(&mut self) -> Option<()> {
-        let name = self.a_constant()?;
+        let name = if self.random.one_in(OFTEN) {
+            "tone".into()
+        } else {
+            self.a_constant()?
+        };
         self.behind("type")?;
-        let literal = self.random.pick(&["|red:Shade|", "|blue:Shade|"]);
+        let literal = self.random.pick(&PRINTED_LITERALS);
         // A literal that is written so would become the constant itself.
         if self.tokens.iter().any(|token| token == literal) {
             return None;
@@ -365,8 +391,11 @@ impl Mutation<'_> {
         if self.random.one_in(OFTEN) {
             self.tokens[place] = name.into();
         } else {
-            let name = self.random.pick(&BAD_OPERATORS);
-            let given = ["builtin".to_string(), quoted(&self.filled(name))];
+            let name = self
+                .random
+                .pick(&BAD_OPERATORS)
+                .replace('~', &self.tokens[place]);
+            let given = ["builtin".to_string(), quoted(&self.filled(&name))];
             self.tokens.splice(place..=place, given);
         }
         Some(())
@@ -378,7 +407,10 @@ impl Mutation<'_> {
         for letter in name.chars() {
             match letter {
                 '#' => filled += &format!("box_{}", 1 + self.random.below(2)),
-                '@' => filled += &(1 + self.random.below(8)).to_string(),
+                '@' => {
+                    let number = self.place(is_integer).map(|place| &self.tokens[place]);
+                    filled += number.map_or("1", |number| number.trim_start_matches('-'));
+                }
                 _ => filled.push(letter),
             }
         }
@@ -409,13 +441,10 @@ mod tests {
             let text = random_box_plan(&mut random);
             let (changed, ways) = mutated(&mut random, &text);
             same += usize::from(tokens(&changed) == tokens(&text));
-            met.extend(
-                ways.into_iter()
-                    .filter(|way| !met.contains(way))
-                    .collect::<Vec<_>>(),
-            );
+            met.extend(ways);
         }
-        assert_eq!(met.len(), WAYS.len());
+        let is_met = |way: &Way| met.contains(way);
+        assert!(WAYS.iter().all(is_met));
         assert!(same < 100, "{same}");
     }
 }
