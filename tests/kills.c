@@ -3,8 +3,9 @@
  *
  *   kills MOMENTS LONGEST SEED SOLVER.. -- HOST WORD..
  *
- * Each of the signals comes at MOMENTS moments, up to LONGEST milliseconds behind the host's start, with one solver after the other.
- * Whoever loses its parent becomes a child of this program: it waits until it has none, and names and kills those that do not end.
+ * Each of the signals comes at MOMENTS moments, up to LONGEST milliseconds behind the host's start, with one solver after the other; to the
+ * host alone, or to its group, as a terminal does it. Whoever loses its parent becomes a child of this program: it waits until it has none,
+ * and names and kills those that do not end.
  */
 #define _DEFAULT_SOURCE
 #include "processes.h"
@@ -80,6 +81,7 @@ static int64_t now(void) {
 static pid_t start_host(char *const *host) {
     pid_t pid = fork();
     stop_if(pid < 0, "start a process");
+    (void)setpgid(pid, pid); /* both do it, and one of both is first */
     if (pid == 0) {
         int nowhere = open("/dev/null", O_RDWR);
         bool ready = nowhere >= 0;
@@ -97,25 +99,34 @@ static pid_t start_host(char *const *host) {
     return pid;
 }
 
-/* Waits until no child is left; false where there still is one when the time is over. How the host ended is noted. */
-static bool all_gone(pid_t host, int *status) {
-    int64_t deadline = now() + ALL_GONE_AFTER;
-    for (;;) {
-        int how = 0;
-        pid_t pid = waitpid(-1, &how, WNOHANG);
-        if (pid < 0) {
-            return errno == ECHILD;
-        }
-        if (pid == host) {
-            *status = how;
-        }
-        if (pid == 0) {
-            if (now() > deadline) {
-                return false;
-            }
-            rest(MILLISECOND / 4);
-        }
+/* Waits for the host, or for any other child; false where it does not end before the deadline. */
+static bool is_gone(pid_t pid, int *status, int64_t deadline) {
+    pid_t ended = waitpid(pid, status, WNOHANG);
+    while (ended == 0 && now() <= deadline) {
+        rest(MILLISECOND / 4);
+        ended = waitpid(pid, status, WNOHANG);
     }
+    return ended != 0;
+}
+
+/* Waits until no child is left; says what is wrong, or NULL. Behind a host that could do so itself nobody is to be waited for. */
+static const char *all_gone(pid_t host, int signal, int *status) {
+    int64_t deadline = now() + ALL_GONE_AFTER;
+    int other = 0;
+    if (!is_gone(host, status, deadline)) {
+        return "the host goes on";
+    }
+    bool nobody = waitpid(-1, NULL, WNOHANG) < 0;
+    if (!nobody && signal != SIGKILL) {
+        return "processes are left when the host has ended";
+    }
+    while (!nobody) {
+        if (!is_gone(-1, &other, deadline)) {
+            return "processes are left";
+        }
+        nobody = waitpid(-1, NULL, WNOHANG) < 0;
+    }
+    return NULL;
 }
 
 /* Names who is left, and kills them, and those whom they leave. */
@@ -142,24 +153,25 @@ static bool is_right_end(int signal, int status) {
 }
 
 /* A host, and its end at a moment, in nanoseconds. */
-static void try_one(const struct work *work, int signal, long moment, struct tally *tally) {
+static void try_one(const struct work *work, int signal, long moment, bool to_group, struct tally *tally) {
     int status = 0;
     pid_t pid = start_host(work->host);
+    pid_t whom = to_group ? -pid : pid;
     rest(moment);
     tally->found += has_solver(pid);
-    stop_if(kill(pid, signal) != 0, "send a signal"); /* nobody has waited for it */
+    stop_if(kill(whom, signal) != 0, "send a signal"); /* nobody has waited for the host */
     if (signal == SIGPIPE) {
         rest(MILLISECOND);
-        stop_if(kill(pid, SIGTERM) != 0, "send a signal");
+        stop_if(kill(whom, SIGTERM) != 0, "send a signal");
     }
-    bool is_good = all_gone(pid, &status);
-    if (!is_good || !is_right_end(signal, status)) {
-        printf("FAILED: signal %d after %ld microseconds, %s: %s, status %x\n", signal, moment / MICROSECOND, work->host[work->words],
-               is_good ? "another end" : "processes are left", (unsigned)status);
-        tally->failed++;
-    } else {
-        tally->passed++;
+    const char *wrong = all_gone(pid, signal, &status);
+    wrong = wrong == NULL && !is_right_end(signal, status) ? "another end" : wrong;
+    if (wrong != NULL) {
+        printf("FAILED: signal %d to %s after %ld microseconds, %s: %s, status %x\n", signal, to_group ? "all" : "one",
+               moment / MICROSECOND, work->host[work->words], wrong, (unsigned)status);
     }
+    tally->passed += wrong == NULL;
+    tally->failed += wrong != NULL;
     tally->ended += WIFSIGNALED(status);
     clear();
 }
@@ -175,7 +187,7 @@ static struct tally try_share(struct work *work, unsigned first) {
         long moment = (long)(random_number(&state) % longest);
         /* The signals take turns, and the solvers behind them. */
         work->host[work->words] = work->solvers[i / SIGNAL_COUNT % work->solver_count];
-        try_one(work, SIGNALS[i % SIGNAL_COUNT], moment, &tally);
+        try_one(work, SIGNALS[i % SIGNAL_COUNT], moment, random_number(&state) % 2 == 0, &tally);
     }
     return tally;
 }

@@ -50,3 +50,11 @@ case $HOST in
         expect 'more memory than there may be' 2 '--memory 4001: the system allows at most 4000 MiB'
         [ ! -e "$work/never.log" ] && passed=$((passed + 1)) || fail 'more memory than there may be' 'something was started' ;;
 esac
+
+# Too little of it.
+for solver in z3 cvc5; do
+    for mib in 1 20; do
+        run prove "$book" 3 34 --memory "$mib" --solver "$solver"
+        expect "$solver with $mib MiB" 3 "--memory lets it have $mib MiB"
+    done
+done

@@ -1,11 +1,12 @@
 #!/bin/sh
-# Silent at the check, with a helper that starts the next one in a new session and ends, on and on.
-if [ "${1:-}" = again ]; then
-    setsid "$0" again &
+# Silent at the check, with a helper that starts the next one in a new session and ends, and so on for some seconds.
+if [ "${1:-0}" -gt 0 ]; then
+    setsid "$0" $(($1 - 1)) &
     echo $! >>"$SOLVER_PIDS"
     exit
 fi
 . "${0%/*}/common.sh"
-"$0" again
+[ "${1:-}" = 0 ] && exit
+"$0" 5000
 at_check() { sleep 1000; }
 serve
