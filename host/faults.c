@@ -38,13 +38,6 @@ static void add_ending(struct bytes *fault, int status) {
     }
 }
 
-/* A solver for which its memory does not suffice seldom says so itself. */
-static void add_memory(struct bytes *fault, uint64_t memory) {
-    if (memory > 0) {
-        add(fault, "; --memory lets it have %" PRIu64 " MiB", memory / BYTES_PER_MIB);
-    }
-}
-
 static void add_what_happened(struct conversation *talk, enum fault fault, int why, int status) {
     struct bytes *message = &talk->fault;
     switch (fault) {
@@ -53,7 +46,6 @@ static void add_what_happened(struct conversation *talk, enum fault fault, int w
         break;
     case FAULT_ENDED:
         add_ending(message, status);
-        add_memory(message, talk->limits.memory);
         break;
     case FAULT_INPUT_CLOSED:
         add(message, "the solver closed its input before it had read everything");

@@ -55,6 +55,6 @@ esac
 for solver in z3 cvc5; do
     for mib in 1 20; do
         run prove "$book" 3 34 --memory "$mib" --solver "$solver"
-        expect "$solver with $mib MiB" 3 "--memory lets it have $mib MiB"
+        expect "$solver with $mib MiB" 3 "its memory is limited to $mib MiB, which may not suffice"
     done
 done
