@@ -48,14 +48,14 @@ static int open_beside(const char *path, char *name, size_t room) {
     return descriptor;
 }
 
-/* `before` is what stood there, or NULL. */
+/* Puts a new file with the same permissions into the place of an old one. */
 static FILE *replace(const char *path, const struct stat *before) {
     size_t room = strlen(path) + MORE_LETTERS;
     char *name = malloc(room);
     int descriptor = name == NULL ? -1 : open_beside(path, name, room);
     FILE *file = NULL;
     if (descriptor >= 0) {
-        bool is_in_place = (before == NULL || fchmod(descriptor, before->st_mode & PERMISSIONS) == 0) && rename(name, path) == 0;
+        bool is_in_place = fchmod(descriptor, before->st_mode & PERMISSIONS) == 0 && rename(name, path) == 0;
         int why = errno;
         if (!is_in_place) {
             (void)unlink(name); /* it is ours, and empty */
@@ -70,19 +70,23 @@ static FILE *replace(const char *path, const struct stat *before) {
     return file;
 }
 
-FILE *new_file_open(const char *path) {
-    struct stat before;
-    if (stat(path, &before) != 0) {
-        return errno == ENOENT ? replace(path, NULL) : NULL;
-    }
-    if (!S_ISREG(before.st_mode)) {
-        return file_of(open(path, O_WRONLY | O_CLOEXEC));
-    }
-    /* A link stays, and what it leads to is replaced. */
-    char *target = realpath(path, NULL);
-    FILE *file = target == NULL ? NULL : replace(target, &before);
+/* A link stays, and what it leads to is replaced. A file that may not be written is not replaced either. */
+static FILE *replace_behind_links(const char *path, const struct stat *before) {
+    char *target = access(path, W_OK) == 0 ? realpath(path, NULL) : NULL;
+    FILE *file = target == NULL ? NULL : replace(target, before);
     int why = errno;
     free(target);
     errno = why;
     return file;
+}
+
+FILE *new_file_open(const char *path) {
+    struct stat before;
+    if (stat(path, &before) != 0) {
+        return errno == ENOENT ? file_of(open(path, O_WRONLY | O_CREAT | O_CLOEXEC, READABLE_BY_ALL)) : NULL;
+    }
+    if (!S_ISREG(before.st_mode)) {
+        return file_of(open(path, O_WRONLY | O_CLOEXEC));
+    }
+    return replace_behind_links(path, &before);
 }

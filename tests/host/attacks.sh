@@ -117,6 +117,10 @@ run prove "$book" 3 34 --log "$work/link.log"
 expect 'a log through a link' 0
 [ "$(cat "$work/second.log")" = before ] && [ -L "$work/link.log" ] && grep -q check-sat "$work/first.log" &&
     [ "$(stat -c %a "$work/first.log")" = 640 ] && passed=$((passed + 1)) || fail 'a log through a link' 'not only the one file is new'
+ln -sf not_there.log "$work/empty_link.log"
+run prove "$book" 3 34 --log "$work/empty_link.log"
+[ -L "$work/empty_link.log" ] && grep -q check-sat "$work/not_there.log" && passed=$((passed + 1)) ||
+    fail 'a log through a link that leads nowhere yet' 'it is not behind the link'
 [ -z "$(find "$work" -name '*.new-*')" ] && passed=$((passed + 1)) || fail 'logs' 'a file is left beside'
 
 # What follows from premises that contradict each other is told apart.
