@@ -1,7 +1,4 @@
 # The host ended by signals at random moments, and solvers whose processes outlive them: nobody is left.
-#
-#   MOMENTS  at how many moments each signal comes
-#   LONGEST  how many milliseconds behind the host's start they are at most
 
 make --no-print-directory target/host/kills >"$out" 2>&1 || { cat "$out"; exit 1; }
 
