@@ -22,8 +22,8 @@ bool signals_forget(void);
 enum { SIGNALS_NO_PIPE = -1, SIGNALS_NO_KEEPER = 0 };
 
 /*
- * What such a signal does before it ends the program: it closes the life pipe of a keeper, and waits for the keeper. To be called while the
- * signals are held back.
+ * What such a signal does before it ends the program: it closes the life pipe of a keeper, and waits for the keeper. While the pipe is
+ * opened or closed, and until this is called, the signals are to be held back.
  */
 void signals_watch(int life, pid_t keeper);
 

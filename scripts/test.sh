@@ -22,7 +22,7 @@ if host_built; then
     compiled tests/scan.c target/host/scan host/scan.c
     counted 'host' tests/host.sh
     part 'the host, under sanitizers'
-    counted 'host under sanitizers' env HOST=target/host/leskofar-sanitized PLANS=20 OTHER_PLANS=5 tests/host.sh
+    counted 'host under sanitizers' env HOST=target/host/leskofar-sanitized PLANS=20 OTHER_PLANS=5 MOMENTS=25 LONGEST=200 tests/host.sh
     part 'the host, under valgrind'
     counted 'host under valgrind' env HOST="$valgrind_host" PARTS='samples faults' PATIENCE=4 STEP=20 LARGE=2000000 tests/host.sh
     part 'installed'

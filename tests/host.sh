@@ -11,6 +11,7 @@
 #   SPLICES   how many runs have a real solver's answers spoilt
 #   STEP      how many bytes lie between two at which a solver dies
 #   LARGE     how many bytes the large model has
+#   MOMENTS   at how many moments each signal ends the host, and LONGEST how many milliseconds they are behind its start at most
 #
 # Ends with a line 'N passed, M failed'.
 set -u
