@@ -2,7 +2,7 @@
 passed=0
 failed=0
 log=$(mktemp) || exit 1
-trap 'rm -f "$log" "$log.ci"' EXIT
+trap 'rm -f "$log" "$log.ci" "$log.beside"' EXIT
 
 count() { # passed failed
     passed=$((passed + $1))
@@ -54,6 +54,20 @@ counted() { # name command...
             echo "FAILED: $name"
             count 0 1 ;;
     esac
+}
+
+# Two such parts at once, since they mostly wait; what they say comes one behind the other. Each command is a function.
+counted_beside() { # name function name function
+    "$4" >"$log.beside" 2>&1 &
+    beside=$!
+    counted "$1" "$2"
+    wait "$beside"
+    beside_status=$?
+    told_beside() {
+        cat "$log.beside"
+        return "$beside_status"
+    }
+    counted "$3" told_beside
 }
 
 # The closing line, and the status.

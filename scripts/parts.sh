@@ -64,9 +64,18 @@ compiled() { # source program words for the compiler...
 # The host, its tools, and what its tests need.
 host_built() {
     need z3 z3 && need cvc5 cvc5 && need valgrind valgrind && need pkg-config pkg-config && need script bsdutils && need man man-db &&
-        make --no-print-directory host target/host/leskofar-sanitized target/host/leskofar-unrandom tools >"$log" 2>&1 && return
+        make --no-print-directory host target/host/leskofar-sanitized target/host/leskofar-unrandom target/host/kills target/host/deepest \
+            tools >"$log" 2>&1 && return
     cat "$log"
     echo 'FAILED: no host, or what its tests need cannot be installed'
     count 0 1
     return 1
+}
+
+# Parts of the host, tried by themselves.
+host_pieces() {
+    compiled tests/scan.c target/host/scan host/scan.c
+    # shellcheck disable=SC2046
+    compiled tests/late.c target/host/late -D_POSIX_C_SOURCE=200809L -pthread -Iinclude $(ls host/*.c | grep -v 'host/main.c') \
+        target/staticlib/libleskofar.a
 }

@@ -23,18 +23,18 @@ fi
 reference
 library tenth
 
-part 'the host, samples and solvers that fail, once'
+part 'the host, samples, solvers that fail and attacks, once'
 if host_built; then
-    compiled tests/scan.c target/host/scan host/scan.c
-    counted 'host' env PARTS='samples faults' tests/host.sh
+    host_pieces
+    counted 'host' env PARTS='samples faults attacks' tests/host.sh
 fi
 part_ended
 
 cat <<'LEFT'
 
 Left out, and run by make test: the proofs of unchanged crates from nothing, the must-fail edits of unchanged crates, nine
-tenths of the comparison's random inputs, the host's usage, limits and made plans, the host under sanitizers and under
-valgrind, the installed library, and the demo.
+tenths of the comparison's random inputs, the host's other groups (tests/host), the host under sanitizers and under valgrind,
+the installed library, and the demo.
 LEFT
 
 close

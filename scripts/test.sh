@@ -16,15 +16,23 @@ reference
 library
 
 part 'the host, with z3, cvc5 and solvers that fail'
-# Under valgrind all is slower: the samples and the solvers that fail, fewer bytes, and more patience.
-valgrind_host="valgrind -q --error-exitcode=99 --leak-check=full --errors-for-leak-kinds=definite,indirect,possible --child-silent-after-fork=yes --suppressions=tests/valgrind.supp target/host/leskofar"
+host_by_hand() { env PARTS='usage names sorts samples faults attacks limits stack engines' tests/host.sh; }
+host_at_random() { env PARTS='verdicts kills mutants splices plans' tests/host.sh; }
+# A host that is slower: fewer inputs, and for signals more time.
+host_sanitized() {
+    env HOST=target/host/leskofar-sanitized PLANS=20 OTHER_PLANS=5 VERDICTS=30 MUTANTS=100 SPLICES=50 MOMENTS=25 LONGEST=200 STEP=10 tests/host.sh
+}
+# Under valgrind all is slower still: the samples and the solvers that fail, fewer bytes, and more patience.
+host_valgrind() {
+    memcheck='valgrind -q --error-exitcode=99 --leak-check=full --errors-for-leak-kinds=definite,indirect,possible'
+    env HOST="$memcheck --child-silent-after-fork=yes --suppressions=tests/valgrind.supp target/host/leskofar" \
+        PARTS='samples faults' PATIENCE=4 LARGE=2000000 tests/host.sh
+}
 if host_built; then
-    compiled tests/scan.c target/host/scan host/scan.c
-    counted 'host' tests/host.sh
-    part 'the host, under sanitizers'
-    counted 'host under sanitizers' env HOST=target/host/leskofar-sanitized PLANS=20 OTHER_PLANS=5 MOMENTS=25 LONGEST=200 tests/host.sh
-    part 'the host, under valgrind'
-    counted 'host under valgrind' env HOST="$valgrind_host" PARTS='samples faults' PATIENCE=4 STEP=20 LARGE=2000000 tests/host.sh
+    host_pieces
+    counted_beside 'host' host_by_hand 'host, at random' host_at_random
+    part 'the host, under sanitizers and under valgrind'
+    counted_beside 'host under sanitizers' host_sanitized 'host under valgrind' host_valgrind
     part 'installed'
     counted 'installed' tests/install.sh
     one 'make demo' make --no-print-directory demo

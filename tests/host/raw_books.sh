@@ -1,8 +1,6 @@
 # Books that may hold anything that the book test takes, and what `leskofar check` says of them. For the groups `names` and `sorts`.
 
-# Where the plan tool looks at names and sorts itself, it is told to let them pass.
-raw_flags=
-"$TOOLS/plan" --help 2>&1 | grep -q -- --raw-names && raw_flags='--raw-names --raw-sorts'
+raw_flags='--raw-names --raw-sorts'
 
 raw_book() { # name plan
     raw=$work/raw.book

@@ -5,8 +5,7 @@ mkdir -p "$work/deepest"
 target/host/deepest "$work/deepest" >"$work/deepest/list" || exit 1
 
 # These books have neither sound names nor sound sorts, only depth.
-raw=
-$HOST prove --help | grep -q -e --raw-names && raw='--raw-names --raw-sorts'
+raw='--raw-names --raw-sorts'
 
 # The KiB that a shell can give a program for its stack.
 LITTLE=256
