@@ -4,12 +4,13 @@ use crate::samples::path;
 use crate::tool::{run, string, BAD_INPUT, WRONG_USAGE};
 use std::ffi::OsStr;
 use std::fs::{self, File};
-use std::io::Read;
+use std::io::{Read, Write};
 use std::os::unix::fs::{symlink, FileTypeExt, MetadataExt, PermissionsExt};
 use std::path::{Path, PathBuf};
 use std::process::{Command, Output};
 
 const OLD: &[u8] = b"the old file";
+const ROOM_OF_A_PIPE: usize = 1 << 16;
 
 /// A new directory of a test's own.
 fn directory(name: &str) -> PathBuf {
@@ -202,8 +203,7 @@ fn no_regular_files() {
     let pipe = directory.join("pipe");
     let made = Command::new("mkfifo").arg(&pipe).status();
     assert!(made.expect("mkfifo runs").success());
-    // The test's own end keeps whoever opens the other one from waiting, and
-    // holds what is written.
+    // With the test's own end open, the tool need not wait for a reader.
     let mut end = File::options()
         .read(true)
         .write(true)
@@ -217,9 +217,11 @@ fn no_regular_files() {
             .is_fifo()
     };
     assert!(is_pipe(&pipe));
-    let mut written = vec![0; book().len()];
-    end.read_exact(&mut written).expect("it reads");
-    assert_eq!(written, book());
+    // With a byte of the test's own behind it, there is always one to read.
+    end.write_all(b".").expect("it has room");
+    let mut written = vec![0; ROOM_OF_A_PIPE];
+    let length = end.read(&mut written).expect("it reads");
+    assert_eq!(written[..length], [&book()[..], b"."].concat());
     assert_eq!(names_in(&directory), ["pipe"]);
 }
 
