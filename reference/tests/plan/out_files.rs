@@ -3,13 +3,14 @@
 use crate::samples::path;
 use crate::tool::{run, string, BAD_INPUT, WRONG_USAGE};
 use std::ffi::OsStr;
-use std::fs;
-use std::os::unix::fs::{symlink, MetadataExt, PermissionsExt};
+use std::fs::{self, File};
+use std::io::{Read, Write};
+use std::os::unix::fs::{symlink, FileTypeExt, MetadataExt, PermissionsExt};
 use std::path::{Path, PathBuf};
 use std::process::{Command, Output};
-use std::thread;
 
 const OLD: &[u8] = b"the old file";
+const ROOM_OF_A_PIPE: usize = 1 << 16;
 
 /// A new directory of a test's own.
 fn directory(name: &str) -> PathBuf {
@@ -188,29 +189,39 @@ fn a_link_stays() {
         .is_symlink());
 }
 
-/// Devices, pipes and directories.
+/// Pipes and directories. No device of the machine is tried: a tool that
+/// replaced it, run by root, would take it from everybody. What is tried is
+/// this test's own, or can't be replaced.
 #[test]
 fn no_regular_files() {
     let directory = directory("others");
-    assert_eq!(write_book(Path::new("/dev/null")).status.code(), Some(0));
-    assert!(!fs::metadata("/dev/null").expect("it is there").is_file());
-    let full = write_book(Path::new("/dev/full"));
-    assert_eq!(full.status.code(), WRONG_USAGE);
-    assert!(string(&full.stderr).starts_with("/dev/full: "));
     assert_eq!(write_book(&directory).status.code(), WRONG_USAGE);
-    let to_stdout = write_book(Path::new("/dev/stdout"));
+    let to_stdout = write_book(Path::new("/proc/self/fd/1"));
     assert_eq!(to_stdout.status.code(), Some(0));
     assert_eq!(to_stdout.stdout, book());
 
     let pipe = directory.join("pipe");
     let made = Command::new("mkfifo").arg(&pipe).status();
     assert!(made.expect("mkfifo runs").success());
-    let reader = thread::spawn({
-        let pipe = pipe.clone();
-        move || fs::read(pipe)
-    });
+    // With the test's own end open, the tool need not wait for a reader.
+    let mut end = File::options()
+        .read(true)
+        .write(true)
+        .open(&pipe)
+        .expect("it opens");
     assert_eq!(write_book(&pipe).status.code(), Some(0));
-    assert_eq!(reader.join().expect("it ends").expect("it reads"), book());
+    let is_pipe = |path: &Path| {
+        fs::metadata(path)
+            .expect("it is there")
+            .file_type()
+            .is_fifo()
+    };
+    assert!(is_pipe(&pipe));
+    // With a byte of the test's own behind it, there is always one to read.
+    end.write_all(b".").expect("it has room");
+    let mut written = vec![0; ROOM_OF_A_PIPE];
+    let length = end.read(&mut written).expect("it reads");
+    assert_eq!(written[..length], [&book()[..], b"."].concat());
     assert_eq!(names_in(&directory), ["pipe"]);
 }
 
