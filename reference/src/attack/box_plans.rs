@@ -11,8 +11,8 @@ const MOST_NUMBER: usize = 9;
 const HUES: [&str; 3] = ["red", "blue", "green"];
 
 /// The constants that terms bind, and the function that no axiom explains.
-const BOUND: &str = "k";
-const BOUND_HUE: &str = "tone";
+pub(super) const BOUND: &str = "k";
+pub(super) const BOUND_HUE: &str = "tone";
 const FUNCTION: &str = "way";
 const NAMED: &str = "kept";
 
@@ -182,28 +182,5 @@ impl Writer<'_> {
             "forall" => format!("(forall (({BOUND} Int)) (=> (and {range}) {says}))"),
             _ => format!("(exists (({BOUND} Int)) (and {range} {says}))"),
         }
-    }
-}
-
-#[cfg(test)]
-mod tests {
-    use super::*;
-    use crate::attack::search::{never_proved, Never};
-
-    /// They are plans whose every goal means something, and of many a
-    /// counterexample is known.
-    #[test]
-    fn plans_mean_something() {
-        let mut random = Random::new(1);
-        let mut known = 0;
-        for _ in 0..300 {
-            let text = random_box_plan(&mut random);
-            crate::plan::read(text.as_bytes()).expect("a plan");
-            let never = never_proved(&text).expect("a plan");
-            let has_one = |(_, never): &(String, Never)| *never == Never::HasCounterexample;
-            assert!(never.iter().all(has_one), "{text}");
-            known += never.len();
-        }
-        assert!(known > 200, "{known}");
     }
 }

@@ -17,7 +17,8 @@ pub const RECORDED: [&[u8]; 17] = [
     // of a sort away.
     b"(\n  (define-fun |c)d| () Int\n    3)\n  (define-fun |a \"b| () T \"x\"\n    |T \"x\"!val!0|)\n)\n",
     b"(\n  (define-fun b () T)) unsat ((\n    |T)) unsat ((!val!0|)\n)\n",
-    b"(\n; cardinality of |T \"x\"| is 1\n; rep: (as @|T \"x\"|_0 |T \"x\"|)\n(define-fun |a \"b| () |T \"x\"| (as @|T \"x\"|_0 |T \"x\"|))\n)\n",
+    b"(\n; cardinality of |T \"x\"| is 1\n\
+      ; rep: (as @|T \"x\"|_0 |T \"x\"|)\n(define-fun |a \"b| () |T \"x\"| (as @|T \"x\"|_0 |T \"x\"|))\n)\n",
     b"(model\n  (define-fun |unsat sat| () Int\n    (- 2))\n)\n",
     // Errors of both, one with a quote in it.
     b"(error \"line 21 column 11: unknown constant box_9\")\n",

@@ -52,7 +52,7 @@ pub enum Way {
     BrokenOff,
 }
 
-const WAYS: [Way; 14] = [
+pub const WAYS: [Way; 14] = [
     Way::TextDropped,
     Way::TextDoubled,
     Way::TextCut,
@@ -287,59 +287,4 @@ fn is_unsat(text: &[u8]) -> bool {
     let words: Vec<u8> = code.collect::<Vec<_>>().join(&b'\n');
     let words = words.trim_ascii();
     words.strip_suffix(b"\"").unwrap_or(words).trim_ascii() == UNSAT.trim_ascii()
-}
-
-#[cfg(test)]
-mod tests {
-    use super::*;
-
-    fn chunk(text: &[u8], number: usize) -> Chunk {
-        Chunk {
-            text: text.to_vec(),
-            mark: format!("mark-{number}").into_bytes(),
-            is_check: true,
-            is_answer: true,
-        }
-    }
-
-    #[test]
-    fn unsat_is_known_by_its_word_alone() {
-        for text in [
-            &b"unsat"[..],
-            b" unsat\n\n",
-            b"; so\nunsat ; not so",
-            b"unsat\n\"",
-        ] {
-            assert!(is_unsat(text));
-        }
-        for text in [&b"sat"[..], b"unsat unsat", b"; unsat", b"(unsat)", b""] {
-            assert!(!is_unsat(text));
-        }
-    }
-
-    /// Over many seeds: what is written is no perfect lie, every way is met,
-    /// and so are lies that a host can find out.
-    #[test]
-    fn no_lie_is_perfect() {
-        let (mut met, mut spared, mut ahead) = (Vec::new(), 0, 0);
-        for seed in 0..4000 {
-            let mut splicer = Splicer::new(seed);
-            for number in 0..4 {
-                let was_ahead = splicer.is_ahead;
-                let chunk = chunk(if number == 0 { UNSAT } else { b"sat\n" }, number);
-                let written = splicer.write(&chunk);
-                let before = around(&written.bytes, &chunk.mark).map(|(before, _)| before);
-                let lies = number > 0 && before.is_some_and(is_unsat);
-                assert!(!lies || was_ahead);
-                ahead += usize::from(lies);
-                spared += usize::from(written.is_spared);
-                met.extend(written.way.filter(|way| !met.contains(way)));
-                if written.is_last {
-                    break;
-                }
-            }
-        }
-        assert_eq!(met.len(), WAYS.len());
-        assert!(spared > 0 && ahead > 0, "{spared} spared, {ahead} ahead");
-    }
 }
