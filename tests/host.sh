@@ -2,8 +2,9 @@
 # The host as it is run: with z3 and cvc5, with solvers that fail, and on made plans whose truth is known.
 #
 #   HOST      the command to test; may have words before it, such as valgrind's
-#   TOOLS     where the reference's tools `plan` and `chains` are
+#   TOOLS     where the reference's tools `plan`, `chains` and `books` are
 #   PLANS     how many made plans z3 is asked, and OTHER_PLANS how many cvc5
+#   VERDICTS  how many random books host and plan tool judge, and VERDICTS_SEED where they begin
 #   PARTS     which of the groups in tests/host/
 #   PATIENCE  how many seconds a silent solver gets
 #   STEP      how many bytes lie between two at which a solver dies
@@ -16,6 +17,8 @@ HOST=${HOST:-target/host/leskofar}
 TOOLS=${TOOLS:-reference/target/release}
 PLANS=${PLANS:-500}
 OTHER_PLANS=${OTHER_PLANS:-50}
+VERDICTS=${VERDICTS:-200}
+VERDICTS_SEED=${VERDICTS_SEED:-20260111}
 PATIENCE=${PATIENCE:-1}
 STEP=${STEP:-2}
 # No run takes longer, whatever its solver does.
@@ -141,7 +144,7 @@ hangs() { # solver [text...]
     seconds=$ENOUGH
 }
 
-for group in ${PARTS:-usage names sorts samples faults limits plans}; do
+for group in ${PARTS:-usage names sorts verdicts samples faults limits plans}; do
     . "tests/host/$group.sh"
 done
 

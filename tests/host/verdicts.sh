@@ -1,8 +1,6 @@
 # Random books, good and bad: host and plan tool, written apart from the same rules, say the same of their names and sorts.
 
-VERDICTS=${VERDICTS:-300}
-VERDICTS_SEED=${VERDICTS_SEED:-20260111}
-# The tool's statuses for a good book and a bad one; the host's for a bad one is 2.
+# The statuses for a bad book; 0 is a good one's.
 PLAN_BAD=1
 HOST_BAD=2
 
@@ -22,7 +20,6 @@ verdict() { # number [flag...]
         0.0) good_count=$((good_count + 1)) ;;
         "$HOST_BAD.$PLAN_BAD") bad_count=$((bad_count + 1)) ;;
         *)
-            cp "$judged" "target/log/verdict-$number.book" 2>/dev/null
             fail "book $number of seed $VERDICTS_SEED with flags '$*'" "host: $(cat "$out" "$err") plan: $(cat "$work/plan.out" "$work/plan.err")"
             return
             ;;
