@@ -18,8 +18,8 @@ enum section {
     SECTION_LISTS
 };
 
-/* The most records that a good book has of a section. */
-enum { BOOK_MOST_TYPES = 64, BOOK_MOST_CONSTANTS = 256, BOOK_MOST_FUNCTIONS = 128, BOOK_MOST_TERMS = 1024 };
+/* The most records that a good book has of some sections. */
+enum { BOOK_MOST_CONSTANTS = 256, BOOK_MOST_FUNCTIONS = 128, BOOK_MOST_TERMS = 1024 };
 
 /* The fields of the records, by their place. */
 enum name_field { NAME_START, NAME_LENGTH };

@@ -20,8 +20,8 @@ struct application {
     uint32_t count;
 };
 
-static uint32_t field(const struct sorted *book, uint32_t term, enum term_field field) {
-    return book_term_field(book->book, term, field);
+static uint32_t field(const struct sorted *book, uint32_t term, enum term_field at) {
+    return book_term_field(book->book, term, at);
 }
 
 static uint32_t sort_at(const struct sorted *book, uint32_t term, enum term_field at) {

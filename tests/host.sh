@@ -3,8 +3,9 @@
 #
 #   HOST      the command to test; may have words before it, such as valgrind's
 #   UNRANDOM_HOST  the host on a system that gives no random bits
-#   TOOLS     where the reference's tools `plan` and `chains` are
+#   TOOLS     where the reference's tools `plan`, `chains`, `books`, `mutants` and `splices` are
 #   PLANS     how many made plans z3 is asked, and OTHER_PLANS how many cvc5
+#   VERDICTS  how many random books host and plan tool judge, and VERDICTS_SEED where they begin
 #   PARTS     which of the groups in tests/host/
 #   PATIENCE  how many seconds a silent solver gets
 #   MUTANTS   how many plans are changed at random, by MUTANTS_SEED
@@ -21,6 +22,8 @@ UNRANDOM_HOST=${UNRANDOM_HOST:-target/host/leskofar-unrandom}
 TOOLS=${TOOLS:-reference/target/release}
 PLANS=${PLANS:-500}
 OTHER_PLANS=${OTHER_PLANS:-50}
+VERDICTS=${VERDICTS:-500}
+VERDICTS_SEED=${VERDICTS_SEED:-20260111}
 MUTANTS=${MUTANTS:-2000}
 MUTANTS_SEED=${MUTANTS_SEED:-20260109}
 # A changed quantifier may keep a solver busy for ever.

@@ -128,7 +128,8 @@ bad_name 'literals of bool and Bool' '(type bool) (term t (literal "x" bool)) (t
 good 'literals that differ' \
     '(type int) (type S) (type T) (term t (literal "x" Int)) (term u (literal "y" int)) (term v (literal "x" S)) (term w (literal "x" T))'
 good 'names that are nearly the same' \
-    '(type S) (constant |red:S| S) (constant |red:| S) (constant |:S| S) (function |red:S:S| () S) (term t (literal "red:" S)) (term u (literal "rid" S))'
+    '(type S) (type T) (constant |red:S| S) (constant |red:| S) (constant |:S| S) (function |red:S:S| () S)
+    (term t (literal "red:" S)) (term u (literal "rid" S)) (term v (literal "red" T))'
 good 'operators over and over' '(constant x Int) (term t (and (= x 1) (= x 2) (builtin "|=|" x x) (builtin "and" (= x 1) (= x 3))))'
 good 'types have a space of their own' '(type x) (constant x x) (function f (x) x :name "T") (type T) (term t (builtin "y" x)) (type y)'
 good 'traces may be anything' '(constant x Int) (node n root (= x 1) :trace "|a b") (node m n (= x 1) :trace "x")'

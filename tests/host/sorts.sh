@@ -99,35 +99,47 @@ done <<'TERMS'
 (= (builtin "y") x (builtin "z") b)@term 4: argument 4 of = must be Int, found Bool
 (distinct x)@term 1: distinct takes 2 or more arguments, found 1
 (distinct x x b)@term 3: argument 3 of distinct must be Int, found Bool
+(=> t t)@term 2: argument 1 of => must be Bool, found T
 (=> b)@term 1: => takes 2 or more arguments, found 1
 (=> b x)@term 2: argument 2 of => must be Bool, found Int
+(and t t)@term 2: argument 1 of and must be Bool, found T
 (and b)@term 1: and takes 2 or more arguments, found 1
 and@term 0: and takes 2 or more arguments, found 0
 (and b t)@term 2: argument 2 of and must be Bool, found T
+(or t t)@term 2: argument 1 of or must be Bool, found T
 (or b)@term 1: or takes 2 or more arguments, found 1
 (or x b)@term 2: argument 1 of or must be Bool, found Int
+(xor t t)@term 2: argument 1 of xor must be Bool, found T
 (xor b)@term 1: xor takes 2 or more arguments, found 1
 (xor b b x)@term 3: argument 3 of xor must be Bool, found Int
 not@term 0: not takes 1 argument, found 0
 (not b b)@term 2: not takes 1 argument, found 2
 (not x)@term 1: argument 1 of not must be Bool, found Int
+(< b b)@term 2: argument 1 of < must be Int, found Bool
 (< x)@term 1: < takes 2 or more arguments, found 1
 (< b x)@term 2: argument 1 of < must be Int, found Bool
+(<= b b)@term 2: argument 1 of <= must be Int, found Bool
 (<= x)@term 1: <= takes 2 or more arguments, found 1
 (<= (+ x x 3))@term 4: <= takes 2 or more arguments, found 1
 (<= x b)@term 2: argument 2 of <= must be Int, found Bool
+(> b b)@term 2: argument 1 of > must be Int, found Bool
 (> x)@term 1: > takes 2 or more arguments, found 1
 (> x t)@term 2: argument 2 of > must be Int, found T
+(>= b b)@term 2: argument 1 of >= must be Int, found Bool
 (>= x)@term 1: >= takes 2 or more arguments, found 1
 (>= x x b)@term 3: argument 3 of >= must be Int, found Bool
+(+ b b)@term 2: argument 1 of + must be Int, found Bool
 (+ x)@term 1: + takes 2 or more arguments, found 1
 (+ x b)@term 2: argument 2 of + must be Int, found Bool
+(* b b)@term 2: argument 1 of * must be Int, found Bool
 (* x)@term 1: * takes 2 or more arguments, found 1
 (* true x)@term 2: argument 1 of * must be Int, found Bool
+(div b b)@term 2: argument 1 of div must be Int, found Bool
 (div x)@term 1: div takes 2 or more arguments, found 1
 (div x x b)@term 3: argument 3 of div must be Int, found Bool
 -@term 0: - takes 1 or more arguments, found 0
 (- b)@term 1: argument 1 of - must be Int, found Bool
+(mod b b)@term 2: argument 1 of mod must be Int, found Bool
 (mod x)@term 1: mod takes 2 arguments, found 1
 (mod x x x)@term 3: mod takes 2 arguments, found 3
 (mod x b)@term 2: argument 2 of mod must be Int, found Bool

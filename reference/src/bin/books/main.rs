@@ -6,6 +6,7 @@
 mod names;
 mod sorted;
 mod sorts;
+mod tiny;
 
 use leskofar_reference::book_test::check;
 use leskofar_reference::chains::{random_chain_plan, MOST_STEPS};
@@ -73,8 +74,12 @@ fn passing_book(random: &mut Random) -> Vec<u8> {
     }
 }
 
-/// A book with or without faults; names and sorts are spoilt apart.
+/// A book with or without faults; names and sorts are spoilt apart. Tiny books
+/// have their own.
 fn spoilt(random: &mut Random) -> Maker {
+    if random.one_in(OFTEN) {
+        return tiny::tiny_book(random);
+    }
     let mut maker = base(random);
     if random.one_in(OFTEN) {
         for _ in 0..=random.below(MOST_FAULTS) {

@@ -22,41 +22,79 @@ pub const ODD_NAMES: [&str; 14] = [
     "|%tag:int|",
     "|1.2.3|",
 ];
-const BAD_NAMES: [&str; 32] = [
+pub const BAD_NAMES: [&str; 32] = [
     "", " ", "a b", "|", "|||", "|a", "a|", "|a|b|", "|a\\b|", "a\\b", "\\", ":a", "a:b", "(",
     "1x", "#", "#x", "#xg", "#b2", "007", "01.5", "1.", "1.2.3", "Bool", "|Int|", "\"", "5", "1.5",
     "#x1F", "#b01", "x ", ";",
 ];
-const NUMBERS: [&str; 10] = [
+pub const NUMBERS: [&str; 10] = [
     "-5", "|5|", "|-5|", "-1.5", "|1.5|", "|-1.50|", "|#x1F|", "|#b|", "-007", "|007|",
 ];
-const WORDS: [&str; 26] = [
-    "let",
-    "forall",
-    "exists",
+/// Reserved words, and words that mean something already.
+pub const WORDS: [&str; 63] = [
     "!",
     "_",
     "as",
-    "par",
+    "BINARY",
+    "DECIMAL",
+    "exists",
+    "HEXADECIMAL",
+    "forall",
+    "let",
     "match",
-    "push",
-    "pop",
-    "echo",
+    "NUMERAL",
+    "par",
+    "STRING",
     "assert",
     "check-sat",
-    "get-model",
-    "reset",
-    "set-option",
-    "BINARY",
-    "STRING",
+    "check-sat-assuming",
+    "declare-const",
+    "declare-datatype",
+    "declare-datatypes",
+    "declare-fun",
+    "declare-sort",
+    "define-fun",
     "define-fun-rec",
+    "define-funs-rec",
+    "define-sort",
+    "echo",
+    "exit",
+    "get-assertions",
+    "get-assignment",
+    "get-info",
+    "get-model",
+    "get-option",
+    "get-proof",
+    "get-unsat-assumptions",
+    "get-unsat-core",
+    "get-value",
+    "pop",
+    "push",
+    "reset",
+    "reset-assertions",
+    "set-info",
+    "set-logic",
+    "set-option",
     "true",
     "false",
     "ite",
+    "=",
+    "=>",
     "and",
-    "<=",
-    "-",
+    "or",
+    "not",
+    "xor",
     "distinct",
+    "<",
+    "<=",
+    ">",
+    ">=",
+    "+",
+    "-",
+    "*",
+    "div",
+    "mod",
+    "abs",
 ];
 /// The words that literals of the built-in types have for them.
 const TYPES_IN_LITERALS: [&str; FIRST_USER_TYPE as usize] = ["bool", "int"];
@@ -91,14 +129,14 @@ pub fn spoil(random: &mut Random, maker: &mut Maker) {
         return;
     }
     let place = random.pick(&places);
-    let text = match random.below(6) {
+    let text = match random.below(7) {
         0 => random.pick(&BAD_NAMES).to_string(),
         1 => random.pick(&NUMBERS).to_string(),
-        2 => {
+        2 | 3 => {
             let word = random.pick(&WORDS);
             with_bars_at_times(random, word)
         }
-        3 => random.pick(&ODD_NAMES).to_string(),
+        4 => random.pick(&ODD_NAMES).to_string(),
         _ => {
             let other = random.pick(&places);
             name_of(random, maker, other)

@@ -8,7 +8,7 @@ use leskofar_reference::random::{Random, AT_TIMES, OFTEN, RARELY};
 
 /// An operator's least and most arguments, what they are, and what it gives.
 /// `None` for arguments that all have one sort, whichever it is.
-type Signature = (&'static str, usize, usize, Option<u32>, u32);
+pub type Signature = (&'static str, usize, usize, Option<u32>, u32);
 
 const MANY: usize = 4;
 pub const SIGNATURES: [Signature; 17] = [

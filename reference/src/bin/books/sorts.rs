@@ -1,17 +1,19 @@
 //! Faults in the sorts and numbers of arguments of a book's terms. Some of
 //! them change nothing that matters.
 
-use crate::sorted::SIGNATURES;
+use crate::sorted::{Signature, SIGNATURES};
 use leskofar_reference::book::{kind, BOOL, FIRST_USER_TYPE, INT};
 use leskofar_reference::maker::Maker;
 use leskofar_reference::random::{Random, OFTEN};
 
 type Fault = fn(&mut Random, &mut Maker);
 
-const FAULTS: [Fault; 9] = [
+const FAULTS: [Fault; 11] = [
     drop_argument,
     rename_operator,
-    rename_operator,
+    rename_alike,
+    rename_alike,
+    rename_alike,
     retype_constant,
     retype_function,
     retype_literal,
@@ -65,6 +67,33 @@ fn rename_operator(random: &mut Random, maker: &mut Maker) {
         let (name, ..) = random.pick(&SIGNATURES);
         maker.terms[term][FIRST] = maker.name(name);
     }
+}
+
+/// The operator becomes one of the same sorts, so that only the number of its
+/// arguments may be wrong.
+fn rename_alike(random: &mut Random, maker: &mut Maker) {
+    let operators: Vec<(usize, Signature)> = (0..maker.terms.len())
+        .filter(|term| maker.terms[*term][0] == kind::BUILT_IN)
+        .filter_map(|term| Some((term, signature(maker, term)?)))
+        .collect();
+    if operators.is_empty() {
+        return;
+    }
+    let (term, (.., takes, gives)) = random.pick(&operators);
+    let alike: Vec<Signature> = (SIGNATURES.into_iter())
+        .filter(|(.., t, g)| (*t, *g) == (takes, gives))
+        .collect();
+    let (name, ..) = random.pick(&alike);
+    maker.terms[term][FIRST] = maker.name(name);
+}
+
+fn signature(maker: &Maker, term: usize) -> Option<Signature> {
+    let name = maker.terms[term][FIRST] as usize;
+    let [start, length] = maker.names[name].map(|number| number as usize);
+    let letters = &maker.letters[start..start + length];
+    SIGNATURES
+        .into_iter()
+        .find(|(name, ..)| name.as_bytes() == letters)
 }
 
 fn retype_constant(random: &mut Random, maker: &mut Maker) {
