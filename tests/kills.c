@@ -88,9 +88,6 @@ static pid_t start_host(char *const *host) {
         for (int stream = 0; stream <= STDERR_FILENO; stream++) {
             ready = ready && dup2(nowhere, stream) == stream;
         }
-        for (size_t i = 0; i < SIGNAL_COUNT; i++) {
-            ready = ready && (SIGNALS[i] == SIGKILL || signal(SIGNALS[i], SIG_DFL) != SIG_ERR);
-        }
         if (ready) {
             execvp(host[0], host);
         }
@@ -245,7 +242,15 @@ static struct work read_work(int count, char **arguments) {
     return work;
 }
 
+/* A shell has its background processes ignore some signals. Hosts begin with none ignored, however early theirs comes. */
+static void ignore_none(void) {
+    for (size_t i = 0; i < SIGNAL_COUNT; i++) {
+        stop_if(SIGNALS[i] != SIGKILL && signal(SIGNALS[i], SIG_DFL) == SIG_ERR, "have signals as they are at first");
+    }
+}
+
 int main(int count, char **arguments) {
+    ignore_none();
     struct work work = read_work(count, arguments);
     struct tally all = try_all(&work);
     unsigned moments = work.moments * SIGNAL_COUNT;
