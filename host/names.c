@@ -10,7 +10,7 @@
 enum role { ROLE_TYPE, ROLE_CONSTANT, ROLE_FUNCTION, ROLE_LITERAL, ROLE_OPERATOR };
 
 static const char *const ROLES[] = {
-    [ROLE_TYPE] = "user type",
+    [ROLE_TYPE] = "type",
     [ROLE_CONSTANT] = "constant",
     [ROLE_FUNCTION] = "function",
     [ROLE_LITERAL] = "the literal of term",
@@ -42,8 +42,10 @@ struct space {
     struct bytes *complaint;
 };
 
+/* By the number that fields have for it, in which the built-in types come first. */
 static void add_record(struct bytes *complaint, const struct named *named) {
-    sentence_add(complaint, "%s %" PRIu32, ROLES[named->role], named->record);
+    uint32_t number = named->role == ROLE_TYPE ? named->record + TYPE_FIRST_USER : named->record;
+    sentence_add(complaint, "%s %" PRIu32, ROLES[named->role], number);
 }
 
 /* What a record is called, as the solver sees it. */

@@ -7,7 +7,7 @@ bad_name() { # name plan complaint
 }
 
 # A name given to each sort of record, and how that record is called in complaints; the letters are those of a plan's string.
-as_type() { plan="(type T :name \"$1\")" who='user type 0'; }
+as_type() { plan="(type T :name \"$1\")" who='type 2'; }
 as_constant() { plan="(constant other Int) (constant c Int :name \"$1\")" who='constant 1'; }
 as_function() { plan="(function another () Int) (function f (Int) Int :name \"$1\")" who='function 1'; }
 as_operator() { plan="(term t (builtin \"$1\"))" who='the operator of term 0'; }
@@ -99,7 +99,7 @@ good 'a tag is a number' '(type |thread kind|) (constant |%tag:int| Int) (consta
 bad_name 'no tag' '(term t (= (literal "%tag|" Int) %tag))' 'the literal of term 0 is called "|%tag|:int|"'
 
 # Names that two have, bars not counted.
-bad_name 'two types' '(type S) (type T :name "|U|") (type U)' 'user type 2 and user type 1 are both called U'
+bad_name 'two types' '(type S) (type T :name "|U|") (type U)' 'type 4 and type 3 are both called U'
 bad_name 'two constants' '(constant a Int) (constant x Int) (constant b Bool :name "|x|")' 'constant 2 and constant 1 are both called x'
 bad_name 'two functions' '(function f () Int) (function g (Int) Int :name "f")' 'function 1 and function 0 are both called f'
 bad_name 'a function and a constant' '(constant x Int) (function f () Int) (function g () Int :name "|x|")' \
@@ -135,7 +135,7 @@ good 'types have a space of their own' '(type x) (constant x x) (function f (x) 
 good 'traces may be anything' '(constant x Int) (node n root (= x 1) :trace "|a b") (node m n (= x 1) :trace "x")'
 
 # The first complaint: types, constants, functions, terms; of one record its form before what others are called.
-bad_name 'types before constants' '(constant c Int :name "a b") (type T :name "c d")' 'user type 0 is called "c d"'
+bad_name 'types before constants' '(constant c Int :name "a b") (type T :name "c d")' 'type 2 is called "c d"'
 bad_name 'constants before functions' '(function f () Int :name "a b") (constant c Int :name "c d")' 'constant 0 is called "c d"'
 bad_name 'functions before terms' '(term t (builtin "a b")) (function f () Int :name "c d")' 'function 0 is called "c d"'
 bad_name 'terms by number' '(term t (builtin "a b")) (term u (literal "|" Int))' 'the operator of term 0 is called "a b"'
