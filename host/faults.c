@@ -1,40 +1,28 @@
 #include "faults.h"
 
+#include "sentence.h"
+
 #include <errno.h>
 #include <inttypes.h>
 #include <signal.h>
-#include <stdarg.h>
-#include <stdio.h>
 #include <string.h>
 #include <sys/wait.h>
 #include <unistd.h>
 
-/* The most letters of a message, and of what is shown of the solver's own. */
-enum { MOST_MESSAGE = 200, MOST_SHOWN = 1024 };
+/* The most letters that are shown of the solver's own. */
+enum { MOST_SHOWN = 1024 };
 enum { BYTES_PER_MIB = 1 << 20 };
-
-/* A message for which the memory does not suffice stays cut short: the check has failed either way. */
-static void add(struct bytes *fault, const char *format, ...) {
-    char message[MOST_MESSAGE];
-    va_list values;
-    va_start(values, format);
-    int length = vsnprintf(message, sizeof message, format, values);
-    va_end(values);
-    if (length > 0) {
-        (void)bytes_add_text(fault, message);
-    }
-}
 
 /* How a solver ended by itself. One that only closed its output has been killed by us, of which nothing is said. */
 static void add_ending(struct bytes *fault, int status) {
     if (WIFEXITED(status) && WEXITSTATUS(status) == PROCESS_NOT_STARTED) {
-        add(fault, "the solver could not be started");
+        sentence_add(fault, "the solver could not be started");
     } else if (WIFEXITED(status)) {
-        add(fault, "the solver ended with status %d before its answer was whole", WEXITSTATUS(status));
+        sentence_add(fault, "the solver ended with status %d before its answer was whole", WEXITSTATUS(status));
     } else if (WIFSIGNALED(status) && WTERMSIG(status) != SIGKILL) {
-        add(fault, "the solver was ended by signal %d before its answer was whole", WTERMSIG(status));
+        sentence_add(fault, "the solver was ended by signal %d before its answer was whole", WTERMSIG(status));
     } else {
-        add(fault, "the solver ended or closed its output before its answer was whole");
+        sentence_add(fault, "the solver ended or closed its output before its answer was whole");
     }
 }
 
@@ -42,28 +30,28 @@ static void add_what_happened(struct conversation *talk, enum fault fault, int w
     struct bytes *message = &talk->fault;
     switch (fault) {
     case FAULT_NO_PROCESS:
-        add(message, "no process can be made for the solver: %s", strerror(why));
+        sentence_add(message, "no process can be made for the solver: %s", strerror(why));
         break;
     case FAULT_ENDED:
         add_ending(message, status);
         break;
     case FAULT_INPUT_CLOSED:
-        add(message, "the solver closed its input before it had read everything");
+        sentence_add(message, "the solver closed its input before it had read everything");
         break;
     case FAULT_LEFT_OVER:
-        add(message, "the solver had written something before the question was sent");
+        sentence_add(message, "the solver had written something before the question was sent");
         break;
     case FAULT_TIMEOUT:
-        add(message, "the solver gave no whole answer within %" PRIu64 " seconds", talk->limits.seconds);
+        sentence_add(message, "the solver gave no whole answer within %" PRIu64 " seconds", talk->limits.seconds);
         break;
     case FAULT_TOO_LONG:
-        add(message, "the solver's answer is longer than %d MiB", CONVERSATION_MOST_ANSWER / BYTES_PER_MIB);
+        sentence_add(message, "the solver's answer is longer than %d MiB", CONVERSATION_MOST_ANSWER / BYTES_PER_MIB);
         break;
     case FAULT_MEMORY:
-        add(message, "the memory does not suffice for what is sent to the solver and what it writes");
+        sentence_add(message, "the memory does not suffice for what is sent to the solver and what it writes");
         break;
     case FAULT_SYSTEM:
-        add(message, "the conversation with the solver broke off: %s", strerror(why));
+        sentence_add(message, "the conversation with the solver broke off: %s", strerror(why));
         break;
     }
 }
@@ -78,7 +66,7 @@ static void add_shown(struct bytes *fault, const char *title, const struct bytes
         end--;
     }
     if (begin < end) {
-        add(fault, "\n%s: ", title);
+        sentence_add(fault, "\n%s: ", title);
         (void)bytes_add(fault, text->at + begin, end - begin);
     }
 }
@@ -107,7 +95,8 @@ static int end_process(struct conversation *talk) {
 /* A solver that lacks memory seldom says so, and one that says so does it in words of its own. */
 static void add_memory(struct conversation *talk) {
     if (talk->limits.memory > 0) {
-        add(&talk->fault, "\nits memory is limited to %" PRIu64 " MiB, which may not suffice", talk->limits.memory / BYTES_PER_MIB);
+        uint64_t mib = talk->limits.memory / BYTES_PER_MIB;
+        sentence_add(&talk->fault, "\nits memory is limited to %" PRIu64 " MiB, which may not suffice", mib);
     }
 }
 
@@ -130,7 +119,7 @@ void fault_tell(struct conversation *talk, enum fault fault) {
 
 void fault_answer(struct conversation *talk, const char *what, const struct answer *answer) {
     (void)end_process(talk); /* it was still there, or its end would have been the fault */
-    add(&talk->fault, "%s", what);
+    sentence_add(&talk->fault, "%s", what);
     (void)bytes_add(&talk->fault, answer->text, answer->length < MOST_SHOWN ? answer->length : MOST_SHOWN);
     add_shown(&talk->fault, "its error output", &talk->errors, 0);
     add_memory(talk);

@@ -1,4 +1,4 @@
-/* Puts together what is said of a book. Where the memory does not suffice a sentence stays shorter: what it says was found all the same. */
+/* Puts together what is said of a book or a solver. Where the memory does not suffice a sentence stays shorter, and is true all the same. */
 #ifndef SENTENCE_H
 #define SENTENCE_H
 

@@ -99,7 +99,8 @@ static bool read_errors(struct conversation *talk) {
 }
 
 static bool serve(struct conversation *talk, const struct pollfd *ready, struct patience *patience) {
-    return (ready[ERRORS].revents == 0 || read_errors(talk)) && (ready[INPUT].revents == 0 || write_some(talk, ready[INPUT].revents, patience)) &&
+    return (ready[ERRORS].revents == 0 || read_errors(talk)) &&
+           (ready[INPUT].revents == 0 || write_some(talk, ready[INPUT].revents, patience)) &&
            (ready[OUTPUT].revents == 0 || read_answer(talk));
 }
 
