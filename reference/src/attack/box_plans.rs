@@ -97,10 +97,12 @@ impl Writer<'_> {
     }
 
     fn hue(&mut self) -> String {
-        match self.random.pick(&HUES) {
-            _ if self.random.one_in(AT_TIMES) => "hue".into(),
-            hue if self.random.one_in(AT_TIMES) => format!("|{hue}:Shade|"),
-            hue => format!("(literal \"{hue}\" Shade)"),
+        let hue = self.random.pick(&HUES);
+        match self.random.below(6) {
+            0 | 1 => "hue".into(),
+            2 => BOUND_HUE.into(),
+            3 => format!("|{hue}:Shade|"),
+            _ => format!("(literal \"{hue}\" Shade)"),
         }
     }
 

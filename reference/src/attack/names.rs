@@ -18,6 +18,14 @@ const RESERVED: [&str; 13] = [
     "STRING",
 ];
 
+/// With bars a symbol is the same one.
+pub fn without_bars(name: &str) -> &str {
+    let barred = name
+        .strip_prefix('|')
+        .and_then(|name| name.strip_suffix('|'));
+    barred.unwrap_or(name)
+}
+
 /// A symbol, with bars or without, that is no reserved word; or a number.
 pub fn may_name_operator(name: &str) -> bool {
     let barred = name
@@ -27,7 +35,7 @@ pub fn may_name_operator(name: &str) -> bool {
         Some(text) => !text.contains(['|', '\\']),
         None => is_simple(name),
     };
-    let is_reserved = RESERVED.contains(&barred.unwrap_or(name));
+    let is_reserved = RESERVED.contains(&without_bars(name));
     (is_symbol && !is_reserved) || is_number(name)
 }
 

@@ -1,7 +1,7 @@
 //! What a term's text says.
 
 use crate::attack::meaning::{list, name, Plan};
-use crate::attack::names::may_name_operator;
+use crate::attack::names::{may_name_operator, without_bars};
 use crate::attack::readable::Piece;
 use crate::attack::terms::{operator, Sort, Term};
 
@@ -78,7 +78,7 @@ impl Plan {
             }
             ("builtin", [Piece::Text(name), args @ ..]) => {
                 let args = self.all(args)?;
-                Some(match operator(name) {
+                Some(match operator(without_bars(name)) {
                     Some(operator) => Term::Operator(operator, args),
                     None if may_name_operator(name) => Term::Other(args),
                     None => Term::Nothing,

@@ -41,8 +41,9 @@ const BAD_NAMES: [&str; 26] = [
     "-",
 ];
 /// Operators that are none. `~` stands for the one that was there.
-const BAD_OPERATORS: [&str; 12] = [
+const BAD_OPERATORS: [&str; 13] = [
     "",
+    "|~|",
     "or true",
     "= @ @) (~",
     "~ @",

@@ -64,6 +64,7 @@ fn what_breaks_the_sorts_means_nothing() {
         "(goal g n and)",
         "(goal g n (builtin \"and true) (or\" b b))",
         "(goal g n (builtin \"let\" b b))",
+        "(goal g n (builtin \"|<=|\" x))",
     ] {
         assert_eq!(never(goal), Some(Never::HasNoMeaning), "{goal}");
     }
