@@ -19,7 +19,7 @@ TOOLS=${TOOLS:-reference/target/release}
 PLANS=${PLANS:-500}
 OTHER_PLANS=${OTHER_PLANS:-50}
 MUTANTS=${MUTANTS:-2000}
-MUTANTS_SEED=${MUTANTS_SEED:-17}
+MUTANTS_SEED=${MUTANTS_SEED:-24}
 # A changed quantifier may keep a solver busy for ever.
 MUTANT_PATIENCE=1
 SPLICES=${SPLICES:-1000}
