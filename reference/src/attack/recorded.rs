@@ -19,11 +19,11 @@ pub const RECORDED: [&[u8]; 17] = [
     b"(\n  (define-fun b () T)) unsat ((\n    |T)) unsat ((!val!0|)\n)\n",
     b"(\n; cardinality of |T \"x\"| is 1\n\
       ; rep: (as @|T \"x\"|_0 |T \"x\"|)\n(define-fun |a \"b| () |T \"x\"| (as @|T \"x\"|_0 |T \"x\"|))\n)\n",
-    b"(model\n  (define-fun |unsat sat| () Int\n    (- 2))\n)\n",
+    b"(\n  (define-fun |unsat sat| () Int\n    (- 2))\n)\n",
     // Errors of both, one with a quote in it.
-    b"(error \"line 21 column 11: unknown constant box_9\")\n",
-    b"(error \"line 5 column 20: unknown constant a \\\"b\")\n",
-    b"(error \"line 18 column 10: model is not available\")\n",
-    b"(error \"Parse Error: <stdin>:21.16: Symbol box_9 is not declared.\n\n  (assert (= box_9 1))\n             ^\n\")\n",
+    b"(error \"line 1 column 12: unknown constant box_9\")\n",
+    b"(error \"line 2 column 8: unknown constant a \\\"b\")\n",
+    b"(error \"line 3 column 10: model is not available\")\n",
+    b"(error \"Parse Error: Symbol box_9 is not declared.\n\n  (assert (= box_9 1))\n             ^\n\")\n",
     b"(error \"Cannot get model unless after a SAT or UNKNOWN response.\")\n",
 ];
