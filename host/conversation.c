@@ -154,7 +154,7 @@ bool conversation_begin(struct conversation *talk, const struct engine *engine) 
     if (!talk->is_open) {
         return fail(talk, FAULT_NO_PROCESS);
     }
-    log_solver(talk->log);
+    log_solver(talk->log, engine->command);
     return true;
 }
 

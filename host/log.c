@@ -23,11 +23,23 @@ static void put(struct log *log, const void *bytes, size_t length) {
     }
 }
 
-void log_solver(struct log *log) {
+/* Cut short where the memory does not suffice: it is only a note. */
+static void note_command(struct log *log, const char *const *command) {
+    struct bytes words = {0};
+    for (size_t i = 0; command[i] != NULL; i++) {
+        (void)(i == 0 || bytes_add_text(&words, " "));
+        (void)bytes_add_text(&words, command[i]);
+    }
+    log_received(log, words.at, words.length);
+    bytes_free(&words);
+}
+
+void log_solver(struct log *log, const char *const *command) {
     if (log->file == NULL) {
         return;
     }
     log_note(log, "a new solver");
+    note_command(log, command);
     if (log->had_solver) {
         put(log, RESET, sizeof RESET - 1);
     }

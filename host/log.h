@@ -19,8 +19,8 @@ struct log {
 /* `path` may be NULL. False where the file cannot be opened; errno says why. */
 bool log_open(struct log *log, const char *path);
 
-/* A solver begins. */
-void log_solver(struct log *log);
+/* A solver begins; its command is noted, with which the log can be run again. */
+void log_solver(struct log *log, const char *const *command);
 
 /* False where the memory does not suffice. */
 bool log_sent(struct log *log, const uint8_t *text, size_t length);

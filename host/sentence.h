@@ -1,4 +1,4 @@
-/* Puts together what is said of a book or a solver. Where the memory does not suffice a sentence stays shorter, and is true all the same. */
+/* Puts together what is said of a book or a solver. Where the memory does not suffice a sentence stays shorter, and is true. */
 #ifndef SENTENCE_H
 #define SENTENCE_H
 
