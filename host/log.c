@@ -66,17 +66,25 @@ void log_drop(struct log *log) {
     }
 }
 
+/* How many bytes stand before the first that ends a comment of SMT-LIB; what stands behind it must not become a command. */
+static size_t line_length(const uint8_t *text, size_t length) {
+    size_t line = 0;
+    while (line < length && text[line] != '\n' && text[line] != '\r') {
+        line++;
+    }
+    return line;
+}
+
 void log_received(struct log *log, const uint8_t *text, size_t length) {
     if (log->file == NULL) {
         return;
     }
     while (length > 0) {
-        const uint8_t *line_end = memchr(text, '\n', length);
-        size_t line = line_end == NULL ? length : (size_t)(line_end - text);
+        size_t line = line_length(text, length);
         put(log, COMMENT, sizeof COMMENT - 1);
         put(log, text, line);
         put(log, "\n", 1);
-        size_t passed = line_end == NULL ? line : line + 1;
+        size_t passed = line < length ? line + 1 : line;
         text += passed;
         length -= passed;
     }

@@ -77,6 +77,13 @@ for solver in z3 cvc5; do
     again "the log of a broken model with $solver" "$solver" "$work/named.smt2"
 done
 
+# What came back stays a comment, whatever ends its lines.
+run prove "$book" 3 34 --solver tests/solvers/returns_carriage.sh --log "$work/carriage.smt2"
+expect 'a carriage return in a model' 1 ': Unproved (sat)'
+tr '\r' '\n' <"$work/carriage.smt2" >"$work/carriage.lines"
+grep -q '^(assert (not' "$work/carriage.lines" && grep -q '^; (assert false)' "$work/carriage.lines" &&
+    ! grep -q '^(assert false)' "$work/carriage.lines" && passed=$((passed + 1)) || fail 'a carriage return in a model' 'it is a command of the log'
+
 # Output that nobody reads ends the run at once, and so does a log that cannot be written.
 export CHECKS="$work/checks"
 questions='3 34 3 34 3 34 3 34 3 34 3 34 3 34 3 34 3 34 3 34'

@@ -49,7 +49,7 @@ done
 for signal in 1 2 15; do
     : >"$SOLVER_PIDS"
     # shellcheck disable=SC2086
-    env --default-signal=INT $HOST prove "$book" 3 34 --timeout 100 --solver tests/solvers/silent.sh >"$out" 2>"$err" &
+    env --default-signal=HUP,INT,TERM $HOST prove "$book" 3 34 --timeout 100 --solver tests/solvers/silent.sh >"$out" 2>"$err" &
     host_pid=$!
     waited=0
     while [ "$(wc -l <"$SOLVER_PIDS")" -lt 2 ] && [ "$waited" -lt 100 ]; do
