@@ -45,13 +45,14 @@ uint32_t book_field(const struct bytes *book, enum section section, uint32_t rec
     return number_at(record_at(book, section, record) + (size_t)field * NUMBER_SIZE);
 }
 
-struct letters book_name(const struct bytes *book, uint32_t name) {
+/* The text of a name. */
+static struct letters text_of(const struct bytes *book, uint32_t name) {
     uint32_t start = book_field(book, SECTION_NAMES, name, NAME_START);
     return (struct letters){record_at(book, SECTION_LETTERS, start), book_field(book, SECTION_NAMES, name, NAME_LENGTH)};
 }
 
 struct letters book_name_at(const struct bytes *book, enum section section, uint32_t record, uint32_t field) {
-    return book_name(book, book_field(book, section, record, field));
+    return text_of(book, book_field(book, section, record, field));
 }
 
 uint32_t book_entry(const struct bytes *book, uint32_t entry) {

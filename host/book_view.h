@@ -81,9 +81,6 @@ uint32_t book_count(const struct bytes *book, enum section section);
 /* A number of a record; letters are no records of numbers. */
 uint32_t book_field(const struct bytes *book, enum section section, uint32_t record, uint32_t field);
 
-/* The text of a name. */
-struct letters book_name(const struct bytes *book, uint32_t name);
-
 /* The text of the name that a field of a record has. */
 struct letters book_name_at(const struct bytes *book, enum section section, uint32_t record, uint32_t field);
 

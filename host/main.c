@@ -52,7 +52,7 @@ static enum status run(const char *name, int count, char **arguments) {
     return STATUS_REFUSED;
 }
 
-/* Whoever closed a standard stream before is not to find a pipe of ours in its place. What is opened here can be neither read nor written. */
+/* Whoever closed a standard stream is not to find a pipe of ours in its place. What is opened here can be neither read nor written. */
 static bool keep_streams(void) {
     int descriptor = 0;
     while (descriptor >= 0 && descriptor <= STDERR_FILENO) {
