@@ -7,18 +7,13 @@
 #include <stdio.h>
 #include <string.h>
 
-static bool fail(struct conversation *talk, enum fault fault) {
-    fault_tell(talk, fault);
-    return false;
-}
-
 static bool queue(struct conversation *talk, const uint8_t *text, size_t length) {
     if (talk->process.in < 0) {
-        return fail(talk, FAULT_INPUT_CLOSED);
+        return fault_tell(talk, FAULT_INPUT_CLOSED);
     }
     bytes_drop(&talk->to_send, talk->sent);
     talk->sent = 0;
-    return (log_sent(talk->log, text, length) && bytes_add(&talk->to_send, text, length)) || fail(talk, FAULT_MEMORY);
+    return (log_sent(talk->log, text, length) && bytes_add(&talk->to_send, text, length)) || fault_tell(talk, FAULT_MEMORY);
 }
 
 bool conversation_tell(struct conversation *talk, const uint8_t *text, size_t length) {
@@ -36,7 +31,7 @@ static bool queue_mark(struct conversation *talk, char mark[MARK_MOST]) {
     bool is_made = marks_next(&talk->marks, mark);
     int length = is_made ? snprintf(command, sizeof command, "(echo \"%s\")\n", mark) : -1;
     bool is_whole = length > 0 && (size_t)length < sizeof command;
-    return is_whole ? queue(talk, (const uint8_t *)command, (size_t)length) : fail(talk, FAULT_SYSTEM);
+    return is_whole ? queue(talk, (const uint8_t *)command, (size_t)length) : fault_tell(talk, FAULT_SYSTEM);
 }
 
 /* The mark alone, which is z3's echo, or as a string, as SMT-LIB has it. */
@@ -125,13 +120,13 @@ static bool fence(struct conversation *talk) {
     }
     if (before.length > 0) {
         talk->answered = 0;
-        return fail(talk, FAULT_LEFT_OVER);
+        return fault_tell(talk, FAULT_LEFT_OVER);
     }
     if (!transfer_look(talk)) {
         return false;
     }
     struct answer behind = read_items(talk->received.at + talk->answered, talk->received.length - talk->answered);
-    return behind.length == 0 || fail(talk, FAULT_LEFT_OVER);
+    return behind.length == 0 || fault_tell(talk, FAULT_LEFT_OVER);
 }
 
 bool conversation_ask(struct conversation *talk, const uint8_t *text, size_t length, struct answer *answer) {
@@ -152,7 +147,7 @@ bool conversation_begin(struct conversation *talk, const struct engine *engine) 
     talk->fault.length = 0;
     talk->is_open = process_start(&talk->process, engine->command, talk->limits.memory);
     if (!talk->is_open) {
-        return fail(talk, FAULT_NO_PROCESS);
+        return fault_tell(talk, FAULT_NO_PROCESS);
     }
     log_solver(talk->log, engine->command);
     return true;

@@ -105,7 +105,7 @@ static void close_log(struct conversation *talk) {
     log_received(talk->log, talk->fault.at, talk->fault.length);
 }
 
-void fault_tell(struct conversation *talk, enum fault fault) {
+bool fault_tell(struct conversation *talk, enum fault fault) {
     int why = errno;
     int status = end_process(talk);
     add_what_happened(talk, fault, why, status);
@@ -115,6 +115,7 @@ void fault_tell(struct conversation *talk, enum fault fault) {
         add_memory(talk);
     }
     close_log(talk);
+    return false;
 }
 
 void fault_answer(struct conversation *talk, const char *what, const struct answer *answer) {

@@ -15,8 +15,8 @@ enum fault {
     FAULT_SYSTEM /* a call that should not fail; errno says why */
 };
 
-/* Ends the conversation, and puts into its `fault` what happened, with what the solver wrote last. */
-void fault_tell(struct conversation *talk, enum fault fault);
+/* Ends the conversation, and puts into its `fault` what happened, with what the solver wrote last. Answers false, as who met it has to. */
+bool fault_tell(struct conversation *talk, enum fault fault);
 
 /* The same where what was answered is no answer; `what` is said before it. */
 void fault_answer(struct conversation *talk, const char *what, const struct answer *answer);

@@ -32,11 +32,6 @@ struct patience patience_of(const struct conversation *talk) {
     return (struct patience){now() + (int64_t)talk->limits.seconds * MILLISECONDS, false};
 }
 
-static bool fail(struct conversation *talk, enum fault fault) {
-    fault_tell(talk, fault);
-    return false;
-}
-
 /* The solver has closed its input: nothing more can be asked of it. */
 static void input_closed(struct conversation *talk, struct patience *patience) {
     process_close(&talk->process.in);
@@ -60,7 +55,7 @@ static bool write_some(struct conversation *talk, short ready, struct patience *
     } else if (errno == EPIPE) {
         input_closed(talk, patience);
     } else if (errno != EAGAIN && errno != EINTR) {
-        return fail(talk, FAULT_SYSTEM);
+        return fault_tell(talk, FAULT_SYSTEM);
     }
     return true;
 }
@@ -78,12 +73,12 @@ static bool read_some(int pipe_end, struct bytes *bytes, bool *has_memory) {
 static bool read_answer(struct conversation *talk) {
     bool has_memory = true;
     if (!read_some(talk->process.out, &talk->received, &has_memory)) {
-        return fail(talk, FAULT_ENDED);
+        return fault_tell(talk, FAULT_ENDED);
     }
     if (!has_memory) {
-        return fail(talk, FAULT_MEMORY);
+        return fault_tell(talk, FAULT_MEMORY);
     }
-    return talk->received.length <= CONVERSATION_MOST_ANSWER || fail(talk, FAULT_TOO_LONG);
+    return talk->received.length <= CONVERSATION_MOST_ANSWER || fault_tell(talk, FAULT_TOO_LONG);
 }
 
 /* Only the first bytes are kept. */
@@ -95,7 +90,7 @@ static bool read_errors(struct conversation *talk) {
     if (talk->errors.length > MOST_ERRORS) {
         talk->errors.length = MOST_ERRORS;
     }
-    return has_memory || fail(talk, FAULT_MEMORY);
+    return has_memory || fault_tell(talk, FAULT_MEMORY);
 }
 
 static bool serve(struct conversation *talk, const struct pollfd *ready, struct patience *patience) {
@@ -121,11 +116,11 @@ static int waiting_time(struct patience *patience, int64_t time) {
 bool transfer_turn(struct conversation *talk, struct patience *patience) {
     int64_t time = now();
     if (time < 0) {
-        return fail(talk, FAULT_SYSTEM);
+        return fault_tell(talk, FAULT_SYSTEM);
     }
     int wait = waiting_time(patience, time);
     if (wait < 0) {
-        return fail(talk, talk->process.in < 0 ? FAULT_INPUT_CLOSED : FAULT_TIMEOUT);
+        return fault_tell(talk, talk->process.in < 0 ? FAULT_INPUT_CLOSED : FAULT_TIMEOUT);
     }
     struct process *process = &talk->process;
     bool has_ended = conversation_has_ended(talk);
@@ -136,10 +131,10 @@ bool transfer_turn(struct conversation *talk, struct patience *patience) {
     /* Whoever else keeps an ended solver's pipes open is not waited for. */
     int count = poll(ready, PIPE_COUNT, has_ended ? 0 : wait);
     if (count < 0) {
-        return errno == EINTR || fail(talk, FAULT_SYSTEM);
+        return errno == EINTR || fault_tell(talk, FAULT_SYSTEM);
     }
     if (count == 0 && has_ended) {
-        return fail(talk, FAULT_ENDED);
+        return fault_tell(talk, FAULT_ENDED);
     }
     return serve(talk, ready, patience);
 }
@@ -147,7 +142,7 @@ bool transfer_turn(struct conversation *talk, struct patience *patience) {
 bool transfer_look(struct conversation *talk) {
     struct pollfd ready = {talk->process.out, POLLIN, 0};
     if (poll(&ready, 1, 0) < 0) {
-        return errno == EINTR || fail(talk, FAULT_SYSTEM);
+        return errno == EINTR || fault_tell(talk, FAULT_SYSTEM);
     }
     return ready.revents == 0 || read_answer(talk);
 }

@@ -20,18 +20,16 @@ const RESERVED: [&str; 13] = [
 
 /// With bars a symbol is the same one.
 pub fn without_bars(name: &str) -> &str {
-    let barred = name
-        .strip_prefix('|')
-        .and_then(|name| name.strip_suffix('|'));
-    barred.unwrap_or(name)
+    between_bars(name).unwrap_or(name)
+}
+
+fn between_bars(name: &str) -> Option<&str> {
+    name.strip_prefix('|')?.strip_suffix('|')
 }
 
 /// A symbol, with bars or without, that is no reserved word; or a number.
 pub fn may_name_operator(name: &str) -> bool {
-    let barred = name
-        .strip_prefix('|')
-        .and_then(|name| name.strip_suffix('|'));
-    let is_symbol = match barred {
+    let is_symbol = match between_bars(name) {
         Some(text) => !text.contains(['|', '\\']),
         None => is_simple(name),
     };

@@ -30,7 +30,8 @@ pub const BAD_NAMES: [&str; 32] = [
 pub const NUMBERS: [&str; 10] = [
     "-5", "|5|", "|-5|", "-1.5", "|1.5|", "|-1.50|", "|#x1F|", "|#b|", "-007", "|007|",
 ];
-/// Reserved words, and words that mean something already.
+/// Reserved words, and words that mean something already. Not the lists of
+/// the programs that are compared: what one of them misses is to be found.
 pub const WORDS: [&str; 63] = [
     "!",
     "_",
