@@ -80,6 +80,13 @@ leskofar_printed leskofar_trace(const uint8_t *book, size_t book_len, uint8_t *s
                                 size_t text_len);
 
 /*
+ * Prints what is to be proved where a goal, any term, is asked at a node: the premises from the root down and the goal, each on a line,
+ * in B3's notation and with the names as they stand in the book. Refusals 1 to 7 and 10, the first that holds. Buffers as above.
+ */
+leskofar_printed leskofar_listing(const uint8_t *book, size_t book_len, uint8_t *scratch, size_t scratch_len, uint32_t node,
+                                  uint32_t goal, uint8_t *text, size_t text_len);
+
+/*
  * Writes the name of an operator by its code, 1 to 14: = => and or = < <= + - * div mod not -. Refusals 11 and 10, in this order. It
  * takes neither a book nor a scratch.
  */
