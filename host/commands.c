@@ -112,3 +112,21 @@ enum status command_trace(int count, char **arguments) {
     writer_free(&writer);
     return status_of(is_done);
 }
+
+static const char LISTING_USAGE[] = "leskofar listing BOOK NODE TERM";
+
+enum status command_listing(int count, char **arguments) {
+    struct operands words;
+    struct writer writer = {0};
+    uint64_t node = 0;
+    uint64_t term = 0;
+    bool is_done = options_read(count, arguments, NULL, 0, &words) && has_operands(&words, 3, LISTING_USAGE) &&
+                   options_number(words.at[1], "NODE", 0, UINT32_MAX, &node) &&
+                   options_number(words.at[2], "TERM", 0, UINT32_MAX, &term) && command_open(&writer, words.at[0]) &&
+                   command_accepted(words.at[0], writer_listing(&writer, (uint32_t)node, (uint32_t)term));
+    if (is_done) {
+        show_text(writer.text.at, writer.text.length);
+    }
+    writer_free(&writer);
+    return status_of(is_done);
+}

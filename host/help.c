@@ -6,6 +6,7 @@ const char HELP_PROGRAM[] =
     "  check BOOK                            test a book\n"
     "  print BOOK TERM                       print a term as the solver gets it\n"
     "  trace BOOK NODE                       print the traces on the way to a node\n"
+    "  listing BOOK NODE TERM                print a node's premises and a goal\n"
     "  prove BOOK NODE TERM [NODE TERM ..]   ask a solver whether terms follow at nodes\n"
     "\n"
     "leskofar COMMAND --help says more of each.\n"
@@ -47,6 +48,16 @@ const char HELP_TRACE[] =
     "\n"
     "Exit status: 0 printed; 2 refused, or wrong usage.\n";
 
+const char HELP_LISTING[] =
+    "usage: leskofar listing BOOK NODE TERM\n"
+    "\n"
+    "Prints what is to be proved where the term with number TERM is asked at node\n"
+    "NODE: the premises of the nodes on the way from the root, a line for each, and\n"
+    "behind |- the term, which is the goal. They are in B3's notation, with names as\n"
+    "the book has them. Node 0 is the root, and has no premise.\n"
+    "\n"
+    "Exit status: 0 printed; 2 refused, or wrong usage.\n";
+
 const char HELP_PROVE[] =
     "usage: leskofar prove BOOK NODE TERM [NODE TERM ..] [OPTIONS]\n"
     "\n"
@@ -64,6 +75,9 @@ const char HELP_PROVE[] =
     "                             limit if not given)\n"
     "  --premises                 ask first, at each node with a question, whether\n"
     "                             its premises contradict each other\n"
+    "  --show-proof-obligations   print for each question, before it is asked, what\n"
+    "                             is to be proved, as leskofar listing does; what\n"
+    "                             is not in the book has no listing\n"
     "  --log FILE                 write the whole conversation to FILE, as a\n"
     "                             script that gives the same answers when it is\n"
     "                             run again, with the answers as comments\n"

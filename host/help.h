@@ -6,6 +6,7 @@ extern const char HELP_PROGRAM[];
 extern const char HELP_CHECK[];
 extern const char HELP_PRINT[];
 extern const char HELP_TRACE[];
+extern const char HELP_LISTING[];
 extern const char HELP_PROVE[];
 
 #endif

@@ -24,6 +24,7 @@ struct request {
     uint64_t seconds;
     uint64_t mib;
     bool asks_premises;
+    bool shows_obligations;
     bool is_quiet;
     bool is_verbose;
     bool raw_names;
@@ -66,6 +67,7 @@ static bool read_request(int count, char **arguments, struct request *request) {
                                      {.name = "--timeout", .number = &request->seconds, .least = 1, .most = MOST_SECONDS},
                                      {.name = "--memory", .number = &request->mib, .least = 1, .most = MOST_MIB},
                                      {.name = "--premises", .flag = &request->asks_premises},
+                                     {.name = "--show-proof-obligations", .flag = &request->shows_obligations},
                                      {.name = "--raw-names", .flag = &request->raw_names},
                                      {.name = "--raw-sorts", .flag = &request->raw_sorts},
                                      {.name = "--quiet", .flag = &request->is_quiet},
@@ -95,12 +97,18 @@ static void ask(const struct request *request, struct premises_known *known, str
 
 /* Goes on as long as somebody can read what is shown and what is logged. */
 static enum status ask_each(const struct request *request, struct premises_known *known, struct prover *prover) {
-    struct report report = {.show = show_begin(request->is_quiet), .is_verbose = request->is_verbose};
+    struct report report = {.show = show_begin(request->is_quiet),
+                            .is_verbose = request->is_verbose,
+                            .shows_obligations = request->shows_obligations};
     bool goes_on = true;
     for (size_t i = 0; goes_on && i < request->count; i++) {
+        report_question(&report, prover->writer, &request->questions[i]);
         show_count(&report.show, i, request->count);
-        ask(request, known, prover, &report, &request->questions[i]);
-        goes_on = show_flush() && log_is_written(prover->talk.log);
+        goes_on = show_flush();
+        if (goes_on) {
+            ask(request, known, prover, &report, &request->questions[i]);
+            goes_on = show_flush() && log_is_written(prover->talk.log);
+        }
     }
     return report.status;
 }

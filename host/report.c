@@ -112,6 +112,20 @@ static void tell_errors(struct conversation *talk) {
     }
 }
 
+void report_question(const struct report *report, struct writer *writer, const struct question *question) {
+    if (!report->shows_obligations || report->show.is_quiet) {
+        return;
+    }
+    uint32_t refusal = writer_listing(writer, question->node, question->term);
+    if (refusal == LESKOFAR_ACCEPTED) {
+        show_text(writer->text.at, writer->text.length);
+    } else if (refusal != LESKOFAR_NOT_IN_BOOK) {
+        /* The question itself may still be asked; of one that is not in the book its result says so. */
+        complain("node %" PRIu32 ", term %" PRIu32 ": the listing is refused %" PRIu32 ": %s", question->node, question->term, refusal,
+                 refusal_meaning(refusal));
+    }
+}
+
 void report_result(struct report *report, struct prover *prover, const struct question *question, const struct result *result,
                    enum premises at_node) {
     char line[MOST_LINE];

@@ -9,9 +9,13 @@
 
 struct report {
     struct show show;
-    bool is_verbose;    /* what the solver writes to its standard error is told always, and not only where it fails */
-    enum status status; /* of all questions so far */
+    bool is_verbose;        /* what the solver writes to its standard error is told always, and not only where it fails */
+    bool shows_obligations; /* what is to be proved is shown before the answer */
+    enum status status;     /* of all questions so far */
 };
+
+/* A question that is about to be asked. */
+void report_question(const struct report *report, struct writer *writer, const struct question *question);
 
 /* `at_node` is what is known of the premises there. */
 void report_result(struct report *report, struct prover *prover, const struct question *question, const struct result *result,

@@ -29,7 +29,6 @@ struct show show_begin(bool is_quiet) {
 void show_count(const struct show *show, size_t done, size_t of) {
     if (show->is_terminal && !show->is_quiet) {
         (void)printf("%s%zu of %zu done", CLEARED_LINE, done, of);
-        (void)show_flush(); /* the next one looks at it again */
     }
 }
 

@@ -31,7 +31,7 @@ void show_block(const struct show *show, const char *title, const uint8_t *text,
 /* The text alone. */
 void show_text(const uint8_t *text, size_t length);
 
-/* Whoever waits for an answer gets it at once, also through a pipe. False where something could not be written. */
+/* Whoever waits or looks on gets what there is at once, also through a pipe. False where something could not be written. */
 bool show_flush(void);
 
 /* False where something could not be written, after a complaint. */

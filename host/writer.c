@@ -62,6 +62,14 @@ uint32_t writer_trace(struct writer *writer, uint32_t node) {
     return printed(writer, answer);
 }
 
+uint32_t writer_listing(struct writer *writer, uint32_t node, uint32_t goal) {
+    leskofar_printed answer;
+    do {
+        answer = leskofar_listing(BOOK(writer), SCRATCH(writer), node, goal, TEXT(writer));
+    } while (has_more_room(writer, answer.refusal));
+    return printed(writer, answer);
+}
+
 uint32_t writer_fresh(struct writer *writer) {
     return leskofar_fresh(IMAGE(writer));
 }

@@ -32,6 +32,7 @@ void writer_free(struct writer *writer);
 uint32_t writer_test_book(struct writer *writer);
 uint32_t writer_print(struct writer *writer, uint32_t term, const struct layout *layout);
 uint32_t writer_trace(struct writer *writer, uint32_t node);
+uint32_t writer_listing(struct writer *writer, uint32_t node, uint32_t goal);
 
 uint32_t writer_fresh(struct writer *writer);
 uint32_t writer_ask(struct writer *writer, uint32_t node, uint32_t goal);
