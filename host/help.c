@@ -54,7 +54,8 @@ const char HELP_LISTING[] =
     "Prints what is to be proved where the term with number TERM is asked at node\n"
     "NODE: the premises of the nodes on the way from the root, a line for each, and\n"
     "behind |- the term, which is the goal. They are in B3's notation, with names as\n"
-    "the book has them. Node 0 is the root, and has no premise.\n"
+    "the book has them. Node 0 is the root, and has no premise. Axioms are not\n"
+    "listed.\n"
     "\n"
     "Exit status: 0 printed; 2 refused, or wrong usage.\n";
 

@@ -4,7 +4,7 @@
 #include <leskofar.h>
 #include <string.h>
 
-enum { FILL = 0xA5, BOOK_SIZE = 512, TEXT_SIZE = 64, TAG = 42 };
+enum { FILL = 0xA5, BOOK_SIZE = 512, TEXT_SIZE = 128, TAG = 42 };
 
 /* A book without records: every section is empty and begins behind the contents. */
 static size_t empty_book(uint8_t *book) {
@@ -13,7 +13,7 @@ static size_t empty_book(uint8_t *book) {
 }
 
 /* Terms x, %tag and (and x %tag), and a node with the trace "x". */
-enum { AND_TERM = 2, TERMS = 3, NODES = 1 };
+enum { X_TERM = 0, AND_TERM = 2, TERMS = 3, NODES = 1 };
 
 static size_t small_book(uint8_t *book) {
     static const uint32_t names[] = {0, 1, 1, 3, 4, 4};
@@ -80,6 +80,10 @@ static leskofar_printed trace_in(struct desk *d, uint32_t node, size_t room) {
     return leskofar_trace(d->book, d->book_len, d->scratch, sizeof d->scratch, node, d->text, room);
 }
 
+static leskofar_printed listing_in(struct desk *d, uint32_t node, uint32_t goal, size_t room) {
+    return leskofar_listing(d->book, d->book_len, d->scratch, sizeof d->scratch, node, goal, d->text, room);
+}
+
 static void print_tests(void) {
     static const char one_line[] = "(and x 42)";
     static const char lines[] = "(and\n     x\n     42)";
@@ -123,6 +127,51 @@ static void trace_tests(void) {
     expect("nothing to trace", refused(leskofar_trace(NULL, 0, NULL, 0, 0, NULL, 0), LESKOFAR_SHORT_SCRATCH));
 }
 
+static void listing_tests(void) {
+    static const char at_node[] = "----- Proof obligation:\n  and(x, %tag:int)\n  |-\n  x\n";
+    static const char at_root[] = "----- Proof obligation:\n  |-\n  and(x, %tag:int)\n";
+    const size_t fitting = strlen(at_node);
+    struct desk d;
+
+    set_up(&d);
+    expect("a listing", wrote(listing_in(&d, NODES, X_TERM, TEXT_SIZE), d.text, at_node));
+    expect("the scratch is zero after a listing", all_are(d.scratch, sizeof d.scratch, 0));
+    set_up(&d);
+    expect("a listing that fills its buffer", wrote(listing_in(&d, NODES, X_TERM, fitting), d.text, at_node));
+    set_up(&d);
+    expect("the root has no premise", wrote(listing_in(&d, 0, AND_TERM, TEXT_SIZE), d.text, at_root));
+}
+
+static void refused_listing_tests(void) {
+    static const char text[] = "----- Proof obligation:\n  and(x, %tag:int)\n  |-\n  and(x, %tag:int)\n";
+    const size_t fitting = strlen(text);
+    struct desk d;
+
+    set_up(&d);
+    expect("a listing with one byte less", refused(listing_in(&d, NODES, AND_TERM, fitting - 1), LESKOFAR_BUFFER_TOO_SHORT));
+    expect("the scratch is zero after a refusal", all_are(d.scratch, sizeof d.scratch, 0));
+    expect("no node behind the last", refused(listing_in(&d, NODES + 1, AND_TERM, TEXT_SIZE), LESKOFAR_NOT_IN_BOOK));
+    expect("no goal behind the last", refused(listing_in(&d, NODES, TERMS, TEXT_SIZE), LESKOFAR_NOT_IN_BOOK));
+    expect("no node of the largest number", refused(listing_in(&d, UINT32_MAX, AND_TERM, TEXT_SIZE), LESKOFAR_NOT_IN_BOOK));
+    expect("no goal of the largest number", refused(listing_in(&d, NODES, UINT32_MAX, TEXT_SIZE), LESKOFAR_NOT_IN_BOOK));
+    expect("a wrong goal without room", refused(listing_in(&d, NODES, TERMS, 0), LESKOFAR_NOT_IN_BOOK));
+    expect("a listing without a buffer",
+           refused(leskofar_listing(d.book, d.book_len, d.scratch, sizeof d.scratch, NODES, AND_TERM, NULL, 0), LESKOFAR_BUFFER_TOO_SHORT));
+    expect("nothing to list", refused(leskofar_listing(NULL, 0, NULL, 0, 0, 0, NULL, 0), LESKOFAR_SHORT_SCRATCH));
+    memset(d.scratch, FILL, sizeof d.scratch);
+    expect("a short scratch for a listing", refused(leskofar_listing(d.book, d.book_len, d.scratch, LESKOFAR_SCRATCH - 1, NODES, AND_TERM,
+                                                                     d.text, TEXT_SIZE),
+                                                    LESKOFAR_SHORT_SCRATCH));
+    expect("it is not touched by a listing", all_are(d.scratch, sizeof d.scratch, FILL));
+    d.book_len = empty_book(d.book);
+    expect("an empty book has no goal", refused(listing_in(&d, 0, 0, TEXT_SIZE), LESKOFAR_NOT_IN_BOOK));
+    d.book_len--;
+    expect("a book cut short, to list", refused(listing_in(&d, 0, 0, TEXT_SIZE), LESKOFAR_BAD_CONTENTS));
+    expect("refused listings leave the text alone", all_are(d.text, sizeof d.text, FILL));
+    set_up(&d);
+    expect("the same with the byte", wrote(listing_in(&d, NODES, AND_TERM, fitting), d.text, text));
+}
+
 static void operator_tests(void) {
     static const char *const names[] = {"=", "=>", "and", "or", "=", "<", "<=", "+", "-", "*", "div", "mod", "not", "-"};
     const uint32_t count = sizeof names / sizeof names[0];
@@ -143,6 +192,8 @@ int main(void) {
     book_tests();
     print_tests();
     trace_tests();
+    listing_tests();
+    refused_listing_tests();
     operator_tests();
     return close_tests();
 }

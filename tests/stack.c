@@ -32,6 +32,14 @@ static uint32_t trace_node(uint32_t node) {
     return leskofar_trace(book, written.len, scratch, sizeof scratch, node, text, sizeof text).refusal;
 }
 
+static uint32_t list_at_root(uint32_t goal) {
+    return leskofar_listing(book, written.len, scratch, sizeof scratch, 0, goal, text, sizeof text).refusal;
+}
+
+static uint32_t list_premises(uint32_t node) {
+    return leskofar_listing(book, written.len, scratch, sizeof scratch, node, 0, text, sizeof text).refusal;
+}
+
 static uint32_t name_operator(uint32_t code) {
     return leskofar_operator(code, text, sizeof text).refusal;
 }
@@ -145,6 +153,8 @@ static void measure_shape(const struct shape *s) {
     written = write_nest(book, s);
     measure("print", in_node, LESKOFAR_STACK, print_line, written.term);
     measure("print on lines", in_node, LESKOFAR_STACK, print_lines, written.term);
+    measure("listing of a goal", in_node, LESKOFAR_STACK, list_at_root, written.term);
+    measure("listing of a premise", in_node, LESKOFAR_STACK, list_premises, written.node);
     measure_session(in_node);
     written = write_axioms(book, s, 1);
     measure_session((struct given){s->name, "in an axiom"});
@@ -162,6 +172,7 @@ int main(void) {
     written = write_chain(book);
     measure("book test", chain, LESKOFAR_STACK, test_book, 0);
     measure("trace", chain, LESKOFAR_STACK, trace_node, written.node);
+    measure("listing", chain, LESKOFAR_STACK, list_premises, written.node);
     measure_session(chain);
     measure("operator", (struct given){"any", "code"}, LESKOFAR_STACK, name_operator, 1);
     return close_tests();

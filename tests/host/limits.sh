@@ -9,18 +9,19 @@ expect 'a large model' 1
 [ "$(wc -c <"$out")" -gt "$LARGE" ] && passed=$((passed + 1)) || fail 'a large model' 'it is cut short'
 [ "$(wc -c <"$work/large.log")" -gt "$LARGE" ] && passed=$((passed + 1)) || fail 'a large log' 'it is cut short'
 
-# A question of megabytes: a name of 8,000 letters, 400 times.
-name=$(head -c 8000 /dev/zero | tr '\0' 'x')
+# A question of megabytes: a name of 8,000 letters, twice in each equality.
+EQUALITIES=200
+long_name=$(head -c 8000 /dev/zero | tr '\0' 'x')
 {
-    echo "(constant $name Int)"
+    echo "(constant $long_name Int)"
     printf '(node n root (and'
     i=0
-    while [ "$i" -lt 200 ]; do
-        printf ' (= %s %s)' "$name" "$name"
+    while [ "$i" -lt "$EQUALITIES" ]; do
+        printf ' (= %s %s)' "$long_name" "$long_name"
         i=$((i + 1))
     done
     echo '))'
-    echo "(goal g n (= $name $name))"
+    echo "(goal g n (= $long_name $long_name))"
 } >"$work/large.plan"
 "$TOOLS/plan" book "$work/large.plan" -o "$work/large.book" --goals >"$work/large.goals" || exit 1
 pairs=$(cut -d ' ' -f 1,2 "$work/large.goals")
@@ -34,6 +35,21 @@ for solver in never_reads closed_input; do
     run prove "$work/large.book" $pairs --solver "tests/solvers/$solver.sh" --timeout "$PATIENCE"
     expect "a large question to $solver" 3 'the solver failed'
 done
+
+# Its listing, for which the buffer grows.
+# shellcheck disable=SC2086
+run listing "$work/large.book" $pairs
+expect 'a large listing' 0
+{
+    echo '----- Proof obligation:'
+    printf '  and('
+    i=1
+    while [ "$i" -lt "$EQUALITIES" ]; do
+        printf '=(%s, %s), ' "$long_name" "$long_name"
+        i=$((i + 1))
+    done
+    printf '=(%s, %s))\n  |-\n  =(%s, %s)\n' "$long_name" "$long_name" "$long_name" "$long_name"
+} | cmp -s - "$out" && passed=$((passed + 1)) || fail 'a large listing' 'another text'
 
 # The solver's memory.
 run prove "$book" 3 34 --memory 100 --solver tests/solvers/greedy.sh

@@ -1,4 +1,28 @@
-# The sample plans, with both solvers: what their comments say.
+# The sample plans, with both solvers: what their comments say, and their listings, which tests/host/listings has.
+
+# The last run's listings, each with the question that it stands before, and all that is no listing.
+listed() { sed -n '/^----- Proof obligation:$/,/^node /p' "$out" | sed 's/^\(node [0-9]*, term [0-9]*\): .*/\1/'; }
+unlisted() { sed '/^----- Proof obligation:$/,/^node /{/^node /!d;}' "$out"; }
+
+expect_listings() { # name file
+    listed >"$work/listed"
+    cmp -s "$work/listed" "$2" && passed=$((passed + 1)) || fail "$1" "other listings: $(diff "$work/listed" "$2" | head -5)"
+}
+
+# A log without what is each run's own.
+unmarked() { sed 's/"leskofar-[0-9a-f]*-/"mark-/' "$1"; }
+
+# The sample once more, with listings: nothing else changes.
+sample_listed() { # name status
+    cp "$out" "$work/plain"
+    # shellcheck disable=SC2086
+    run prove "$work/$1.book" $pairs --solver "$solver" --log "$work/$1.listed.log" --show-proof-obligations
+    expect "$1 with $solver and listings" "$2"
+    expect_listings "$1 with $solver and listings" "tests/host/listings/$1.txt"
+    unlisted | cmp -s - "$work/plain" && passed=$((passed + 1)) || fail "$1 with $solver and listings" 'other answers'
+    unmarked "$work/$1.log" >"$work/plain"
+    unmarked "$work/$1.listed.log" | cmp -s - "$work/plain" && passed=$((passed + 1)) || fail "$1 with $solver and listings" 'another log'
+}
 
 for solver in z3 cvc5; do
     sample() { # name status results
@@ -8,6 +32,7 @@ for solver in z3 cvc5; do
         run prove "$work/$1.book" $pairs --solver "$solver" --log "$work/$1.log"
         expect "$1 with $solver" "$2"
         expect_results "$1 with $solver" "$3"
+        sample_listed "$1" "$2"
     }
     sample limit_proved 0 'Proved'
     expect_solvers "one question with $solver" "$work/limit_proved.log" 1
@@ -25,6 +50,13 @@ for solver in z3 cvc5; do
     run prove "$work/siblings.book" 3 34 4 34 --solver "$solver" --quiet
     expect "quiet with $solver" 1
     [ ! -s "$out" ] && [ ! -s "$err" ] && passed=$((passed + 1)) || fail "quiet with $solver" 'it says something'
+    run prove "$work/siblings.book" 3 34 4 34 --solver "$solver" --quiet --show-proof-obligations
+    expect "quiet with $solver and listings" 1
+    [ ! -s "$out" ] && [ ! -s "$err" ] && passed=$((passed + 1)) || fail "quiet with $solver and listings" 'it says something'
+    # shellcheck disable=SC2086
+    run prove "$work/siblings.book" $pairs --solver "$solver" --premises --show-proof-obligations
+    expect "premises with $solver and listings" 1
+    expect_listings "premises with $solver and listings" tests/host/listings/siblings.txt
 
     # Negative numbers, the least one too: z3 reads -5 as a number, for cvc5 the host defines the name.
     cat >"$work/negative.plan" <<'PLAN'
@@ -36,9 +68,30 @@ for solver in z3 cvc5; do
 PLAN
     "$TOOLS/plan" book "$work/negative.plan" -o "$work/negative.book" --goals >"$work/negative.goals" || exit 1
     # shellcheck disable=SC2046
-    run prove "$work/negative.book" $(cut -d ' ' -f 1,2 "$work/negative.goals") --solver "$solver"
+    run prove "$work/negative.book" $(cut -d ' ' -f 1,2 "$work/negative.goals") --solver "$solver" --show-proof-obligations
     expect "negative numbers with $solver" 1
     expect_results "negative numbers with $solver" 'Proved Proved Unproved'
+    expect_listings "negative numbers with $solver" tests/host/listings/negative.txt
+
+    # Quantifiers with patterns and without, of built-in types and of a plan's own, and names with bars.
+    cat >"$work/quantifiers.plan" <<'PLAN'
+(type Shade)
+(type |weft kind|)
+(constant a Int)
+(constant p Bool)
+(constant s Shade)
+(constant |kind 1| |weft kind|)
+(constant |kind 2| |weft kind|)
+(function box_of (Shade Int) Int)
+(node rule root (forall ((s Shade) (a Int)) (! (<= 0 (box_of s a)) :pattern ((box_of s a)) :pattern ((box_of s 1) (box_of s a)))))
+(node some rule (exists ((p Bool) (|kind 1| |weft kind|)) (and p (= |kind 1| |kind 2|))))
+(goal follows some (let ((p (forall ((a Int)) (<= -1 (box_of s a))))) p))
+PLAN
+    "$TOOLS/plan" book "$work/quantifiers.plan" -o "$work/quantifiers.book" --goals >"$work/quantifiers.goals" || exit 1
+    # shellcheck disable=SC2046
+    run prove "$work/quantifiers.book" $(cut -d ' ' -f 1,2 "$work/quantifiers.goals") --solver "$solver" --show-proof-obligations
+    expect "quantifiers with $solver" 0
+    expect_listings "quantifiers with $solver" tests/host/listings/quantifiers.txt
 
     # What the solver cannot read fails the check, and only that: the next question has a new solver.
     cat >"$work/unread.plan" <<'PLAN'
@@ -72,6 +125,19 @@ expect 'a command for the shell' 0 'Proved'
 printf '(constant x Int)\n(function f (Int) Int :explained-by (lost))\n(axiom lost :explains (f))\n(node n root (= x 1))\n(goal a n (= (f x) 1))\n(goal b n (< x 2))\n' >"$work/lost.plan"
 "$TOOLS/plan" book "$work/lost.plan" -o "$work/lost.book" --goals >"$work/lost.goals" || exit 1
 # shellcheck disable=SC2046
-run prove "$work/lost.book" $(cut -d ' ' -f 1,2 "$work/lost.goals")
+run prove "$work/lost.book" $(cut -d ' ' -f 1,2 "$work/lost.goals") --show-proof-obligations
 expect 'an axiom without a term' 2 'refused 9: a function that the question needs is explained by an axiom without a term'
 expect_results 'an axiom without a term' 'refused Proved'
+expect_listings 'an axiom without a term' tests/host/listings/lost.txt
+
+# A listing can be read while the solver is busy with its question: what was printed at the last check is all but the last answer.
+cat >"$work/looks.sh" <<SOLVER
+#!/bin/sh
+. tests/solvers/common.sh
+at_check() { cp "$out" "$work/seen" && echo unsat; }
+serve
+SOLVER
+chmod +x "$work/looks.sh"
+run prove "$work/siblings.book" 3 34 4 34 --solver "$work/looks.sh" --show-proof-obligations
+expect 'a listing before its answer' 0 'node 4, term 34: Proved'
+sed '$d' "$out" | cmp -s - "$work/seen" && passed=$((passed + 1)) || fail 'a listing before its answer' "only $(cat "$work/seen")"

@@ -31,6 +31,7 @@ while read -r deepest node term; do
         deep "$kib" check "$deepest" $raw
         deep "$kib" print "$deepest" "$term"
         deep "$kib" print "$deepest" "$term" --lines
+        deep "$kib" listing "$deepest" "$node" "$term"
         # shellcheck disable=SC2086
         deep "$kib" prove "$deepest" "$node" "$term" 0 "$term" --solver tests/solvers/proves_all.sh $raw
     done

@@ -5,7 +5,10 @@ book=$work/siblings.book
 
 run --help
 expect 'help' 0 'usage: leskofar COMMAND'
-for command in check print trace prove; do
+commands='check print trace listing prove'
+[ "$(sed -n 's/^  \([a-z]*\) BOOK .*/\1/p' "$out" | tr '\n' ' ')" = "$commands " ] && passed=$((passed + 1)) ||
+    fail 'help' 'other commands, or another order'
+for command in $commands; do
     run "$command" --help
     expect "$command's help" 0 "usage: leskofar $command" 'Exit status'
     run "$command"
@@ -23,10 +26,10 @@ expect 'a wrong command' 2 'there is no command proof'
 run check "$book"
 expect 'a good book' 0 'a good book'
 head -c 79 "$book" >"$work/short.book"
-for command in 'check' 'print' 'trace' 'prove'; do
+for command in $commands; do
     case $command in
         check) run check "$work/short.book" ;;
-        prove) run prove "$work/short.book" 1 1 ;;
+        listing | prove) run "$command" "$work/short.book" 1 1 ;;
         *) run "$command" "$work/short.book" 1 ;;
     esac
     expect "$command refuses a book cut short" 2 'refused 2: the book is under 80 bytes, or its table of contents is not as laid out'
@@ -77,6 +80,40 @@ expect 'trace of the root' 0
 run trace "$book" 5
 expect 'trace of no node' 2 'refused 7'
 
+goal='<=(+((if <(box_1, box_2) -(box_2, box_1) else -(box_1, box_2)), (if <(box_2, box_3) -(box_3, box_2) else -(box_2, box_3))), 3)'
+run listing "$book" 4 34
+expect 'listing' 0
+printf '%s\n' '----- Proof obligation:' '  =(box_1, 4)' '  =(box_2, 5)' '  =(box_3, 1)' '  |-' "  $goal" >"$work/wanted"
+cmp -s "$out" "$work/wanted" && passed=$((passed + 1)) || fail 'listing' "another text: $(cat "$out")"
+run listing "$book" 0 34
+expect 'listing at the root' 0
+printf '%s\n' '----- Proof obligation:' '  |-' "  $goal" >"$work/wanted"
+cmp -s "$out" "$work/wanted" && passed=$((passed + 1)) || fail 'listing at the root' "another text: $(cat "$out")"
+# A goal is any term: the last one, and one of a node.
+for term in '35 false' '2 =(box_1, 4)'; do
+    run listing "$book" 1 "${term%% *}"
+    printf '%s\n' '----- Proof obligation:' '  =(box_1, 4)' '  |-' "  ${term#* }" >"$work/wanted"
+    cmp -s "$out" "$work/wanted" && passed=$((passed + 1)) || fail "listing of $term" "another text: $(cat "$out")"
+done
+for pair in '5 34' '4294967295 34' '4 36' '4 4294967295'; do
+    # The pair is meant to fall apart.
+    # shellcheck disable=SC2086
+    run listing "$book" $pair
+    expect "listing of $pair" 2 'refused 7: the node or term is not in the book'
+    [ ! -s "$out" ] && passed=$((passed + 1)) || fail "listing of $pair" 'something is printed'
+done
+run listing "$book" 4294967296 34
+expect 'listing at a node over 32 bits' 2 'NODE is a number from 0 to 4294967295'
+run listing "$book" 4 4294967296
+expect 'listing of a term over 32 bits' 2 'TERM is a number from 0 to 4294967295'
+for words in '4' '4 34 5'; do
+    # shellcheck disable=SC2086
+    run listing "$book" $words
+    expect "listing of $words" 2 'usage: leskofar listing BOOK NODE TERM'
+done
+run listing /no/such/book 4 34
+expect 'listing without its book' 2 '/no/such/book: No such file or directory'
+
 run prove "$book" 3
 expect 'a node without a term' 2 'usage: leskofar prove'
 run prove "$book" 3 34 4
@@ -87,10 +124,18 @@ run prove "$book" 3 34 --log /no/such/file
 expect 'a log that cannot be written' 2 '/no/such/file'
 run prove "$book" 3 34 --log /dev/full
 expect 'a log on a full disk' 2 '/dev/full cannot be written'
-timeout "$HANGS_AFTER" $HOST print "$book" 34 >/dev/full 2>"$err"
+for words in "print $book 34" "listing $book 4 34"; do
+    # shellcheck disable=SC2086
+    timeout "$HANGS_AFTER" $HOST $words >/dev/full 2>"$err"
+    status=$?
+    : >"$out"
+    expect "a full standard output for $words" 2 'standard output cannot be written'
+done
+# Who cannot read the listing gets no answer either.
+timeout "$HANGS_AFTER" $HOST prove "$book" 3 34 --show-proof-obligations --log "$work/unread.log" >/dev/full 2>"$err"
 status=$?
-: >"$out"
-expect 'a full standard output' 2 'standard output cannot be written'
+expect 'a full standard output for listings' 2 'standard output cannot be written'
+expect_solvers 'a full standard output for listings' "$work/unread.log" 0
 timeout "$HANGS_AFTER" $HOST prove "$book" 3 34 >&- 2>"$err" <&-
 status=$?
 expect 'closed standard streams' 2 'standard output cannot be written'
@@ -100,12 +145,23 @@ run prove "$book" 3 34 9 34 3 99 4 34
 expect 'refused questions among others' 2 'node 9, term 34: refused 7' 'node 3, term 99: refused 7'
 expect_results 'refused questions among others' 'Proved refused refused Unproved'
 
+# It has no listing, and the others have theirs.
+run prove "$book" 3 34 9 34 3 99 4 34 --show-proof-obligations
+expect 'refused questions among listings' 2 'node 9, term 34: refused 7' 'node 3, term 99: refused 7'
+sed -n 's/^\(----- .*\)$/\1/p; s/^\(node [0-9]*, term [0-9]*\): .*/\1/p' "$out" >"$work/order"
+printf '%s\n' '----- Proof obligation:' 'node 3, term 34' 'node 9, term 34' 'node 3, term 99' '----- Proof obligation:' 'node 4, term 34' >"$work/wanted"
+cmp -s "$work/order" "$work/wanted" && passed=$((passed + 1)) || fail 'refused questions among listings' "$(cat "$work/order")"
+[ ! -s "$err" ] && passed=$((passed + 1)) || fail 'refused questions among listings' 'a complaint beside the results'
+
 # Colours and the count are for a terminal alone.
 expect_not 'no colours in a file' "$(printf '\033')"
 if command -v script >/dev/null 2>&1; then
     script -qec "$HOST prove $book 3 34 4 34" /dev/null >"$out" 2>"$err" </dev/null
     status=$?
     expect 'on a terminal' 1 "$(printf '\033[32mProved')" "$(printf '\033[33mUnproved')" '0 of 2 done' '1 of 2 done'
+    # The count does not stand in the way of a listing.
+    script -qec "$HOST prove $book 3 34 4 34 --show-proof-obligations" /dev/null 2>"$err" </dev/null | tr -d '\r' >"$out"
+    [ "$(grep -cx -- '----- Proof obligation:' "$out")" -eq 2 ] && passed=$((passed + 1)) || fail 'listings on a terminal' "$(cat -v "$out")"
     NO_COLOR=1 script -qec "$HOST prove $book 3 34" /dev/null >"$out" 2>"$err" </dev/null
     expect_not 'no colours where they are not wanted' "$(printf '\033[32m')"
 else
