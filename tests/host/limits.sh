@@ -51,6 +51,26 @@ expect 'a large listing' 0
     printf '=(%s, %s))\n  |-\n  =(%s, %s)\n' "$long_name" "$long_name" "$long_name" "$long_name"
 } | cmp -s - "$out" && passed=$((passed + 1)) || fail 'a large listing' 'another text'
 
+# One that is longer than 256 MiB: that name for each variable of each quantifier.
+QUANTIFIERS=17
+VARIABLES=2000
+repeated() { # text count
+    awk -v text="$1" -v count="$2" 'BEGIN { while (count-- > 0) printf "%s", text }'
+}
+{
+    echo "(constant x Int :name \"$long_name\")"
+    echo "(goal g root $(repeated "(forall ($(repeated '(x Int)' "$VARIABLES")) " "$QUANTIFIERS")(= x x)$(repeated ')' "$QUANTIFIERS"))"
+} >"$work/huge.plan"
+"$TOOLS/plan" book "$work/huge.plan" -o "$work/huge.book" --goals >"$work/huge.goals" || exit 1
+pairs=$(cut -d ' ' -f 1,2 "$work/huge.goals")
+# shellcheck disable=SC2086
+run listing "$work/huge.book" $pairs
+expect 'a listing that is too long' 2 'refused 10: the text is longer than its buffer'
+# shellcheck disable=SC2086
+run prove "$work/huge.book" $pairs --show-proof-obligations
+expect 'a question whose listing is too long' 2 'the listing is refused 10: the text is longer than its buffer' ': refused 10'
+expect_not 'a question whose listing is too long' '-----'
+
 # The solver's memory.
 run prove "$book" 3 34 --memory 100 --solver tests/solvers/greedy.sh
 expect 'a greedy solver' 3 'gave no reply to the check'
