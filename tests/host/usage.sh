@@ -145,7 +145,7 @@ run prove "$book" 3 34 9 34 3 99 4 34
 expect 'refused questions among others' 2 'node 9, term 34: refused 7' 'node 3, term 99: refused 7'
 expect_results 'refused questions among others' 'Proved refused refused Unproved'
 
-# It has no listing, and the others have theirs.
+# Such a question has no listing, and the others have theirs.
 run prove "$book" 3 34 9 34 3 99 4 34 --show-proof-obligations
 expect 'refused questions among listings' 2 'node 9, term 34: refused 7' 'node 3, term 99: refused 7'
 sed -n 's/^\(----- .*\)$/\1/p; s/^\(node [0-9]*, term [0-9]*\): .*/\1/p' "$out" >"$work/order"
