@@ -43,8 +43,8 @@ enum leskofar_refusal {
 #define LESKOFAR_SCRATCH 1024
 
 /*
- * Bytes of stack that are enough for any call without a session, beside what the caller and its thread take. The deepest terms that a
- * book can hold need nearly all of it (docs/PERFORMANCE.md); every other call needs a few thousand bytes.
+ * Bytes of stack that are enough for any call without a session, beside what the caller and its thread take. To print the deepest terms
+ * that a book can hold takes nearly all of it, to list them half (docs/PERFORMANCE.md); every other call needs a few thousand bytes.
  */
 #define LESKOFAR_STACK (200 * 1024)
 

@@ -9,5 +9,6 @@ pub mod Given
 pub mod Answers
 pub mod Entries
 pub mod TermLaw
+pub mod TermKinds
 pub mod EveryTerm
 pub mod Names

@@ -9,6 +9,7 @@ mod print_calls;
 mod session_calls;
 
 pub use print_calls::Told;
+pub use print_calls::leskofar_listing;
 pub use print_calls::leskofar_operator;
 pub use print_calls::leskofar_print;
 pub use print_calls::leskofar_trace;

@@ -1,10 +1,12 @@
-// The calls print, trace and operator.
+// The calls print, trace, listing and operator.
 ghost use mathlib.Core.Path.{_≡_};
 ghost use Rattle.rsolver.specs.Trace.{traceCall};
+ghost use Rattle.rsolver.specs.Listing.{listingCall};
 ghost use Rattle.solver_expr.specs.Print.{printedValue, printCall, operatorCall};
 ghost use Rattle.printing.specs.Calls.{layoutOf};
 ghost use Rattle.leskofar.specs.Exports.{told, flag};
 use super::ACCEPTED;
+use listing::listing;
 use printing::operator;
 use printing::print;
 use refusal_numbers::number;
@@ -70,6 +72,21 @@ pub extern "C" fn leskofar_trace(
     ensures scratch { λ r. ⌜ now (scratch .exit) ≡ traceCall (now (book .entry)) (now (scratch .entry)) node (now (text .entry)) .scratch ⌝ }
 {
     tell(trace(book, scratch, node as usize, text))
+}
+
+#[no_mangle]
+pub extern "C" fn leskofar_listing(
+    book: &[u8],
+    scratch: &mut [u8],
+    node: u32,
+    goal: u32,
+    text: &mut [u8],
+) -> Told
+    ensures answer { λ r. ⌜ r ≡ told (listingCall (now (book .entry)) (now (scratch .entry)) node goal (now (text .entry)) .answer) ⌝ }
+    ensures text { λ r. ⌜ now (text .exit) ≡ listingCall (now (book .entry)) (now (scratch .entry)) node goal (now (text .entry)) .text ⌝ }
+    ensures scratch { λ r. ⌜ now (scratch .exit) ≡ listingCall (now (book .entry)) (now (scratch .entry)) node goal (now (text .entry)) .scratch ⌝ }
+{
+    tell(listing(book, scratch, node as usize, goal as usize, text))
 }
 
 #[no_mangle]

@@ -9,6 +9,7 @@ use lib.ListN.{length}
 use Rattle.basics.specs.Write.{MOST, WroteAt}
 use Rattle.basics.proofs.Places.{at-then, at-none, at-as, at-length}
 use Rattle.book.specs.Book.{Book, lists, field, entries}
+use Rattle.book_test.proofs.Entries.{entries-more, map-more}
 use Rattle.smt_engines.specs.Command.{Command, script}
 use Rattle.smt_engines.proofs.Hearing.{script-append}
 use Rattle.rsolver.specs.Step.{Step, skip, _⨟_, for, doUnless, unless}
@@ -90,20 +91,10 @@ did-miss {n} {ls} {so} {r} o a e h =
     }
 
 -- ---- over a range of lists
-module _ (b : Book) where
-  pub entries-more : (start i : ℕ) → entries b start (suc i) ≡ entries b start i ++ (field b lists (start + i) 0 ∷ [])
-  unfolding entries
-  entries-more start zero = let e : start + 0 ≡ start = omega arith in rw e
-  entries-more start (suc i) = let e : start + suc i ≡ suc start + i = omega arith in rw e (ap {B = List ℕ} (λ (l : List ℕ). field b lists start 0 ∷ l) (entries-more (suc start) i))
-
 for-more : {A : Type 0} (xs : List A) (x : A) (body : A → Step LevelState) (s : LevelState) → for (xs ++ (x ∷ [])) body s ≡ (for xs body ⨟ body x) s
 unfolding for _⨟_
 for-more [] x body s = refl
 for-more (y ∷ xs) x body s = for-more xs x body (body y s)
-
-map-more : {A : Type 0} (g : ℕ → A) (xs : List ℕ) (x : ℕ) → map g (xs ++ (x ∷ [])) ≡ map g xs ++ (g x ∷ [])
-map-more g [] x = refl
-map-more g (y ∷ xs) x = rw (map-more g xs x)
 
 for-none : {A : Type 0} (body : A → Step LevelState) (s : LevelState) → for [] body s ≡ skip s
 unfolding for skip

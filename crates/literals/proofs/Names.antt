@@ -144,10 +144,6 @@ module _ (b : Book) where
   other-kind (suc (suc (suc (suc (suc (suc (suc (suc zero)))))))) k h = refl
   other-kind (suc (suc (suc (suc (suc (suc (suc (suc (suc n))))))))) k h = refl
 
-  pub good-literal : Promise b → {k n : ℕ} → k < size b terms → n ≡ field b terms k 0 → n ≡ 2 → GoodLiteral b k
-  unfolding GoodKind kindOf
-  good-literal P {k} h e z = let q : field b terms k 0 ≡ 2 = sym e ∙ z in rw q at (P .term k h .fields)
-
   pub literal-here : (name : Text) (ls : List ℕ) (k : ℕ) {n : ℕ} {r : Bool} → (getD ls (literalPlaces + k) 0 ≡ 0 → ⊥) → n ≡ field b terms k 0 → n ≡ 2 → r ≡ same name (literalName (literalOf b k)) → r ≡ declaresName b name ls k
   unfolding declaresName hasName
   literal-here name ls k h e z q = rw (ne-eqb (getD ls (literalPlaces + k) 0) 0 h, literal-kind k (sym e ∙ z)) q

@@ -4,3 +4,4 @@ pub mod SolverState
 pub mod LevelState
 pub mod REngine
 pub mod Trace
+pub mod Listing

@@ -50,8 +50,8 @@ pub fn put_name(book: &[u8], n: usize, out: &mut [u8]) -> usize
     put_all(s, out)
 }
 
-// ToString of a type: inside a literal, a name is raw.
-fn put_type(book: &[u8], k: usize, out: &mut [u8]) -> usize
+// SType.ToString: a name is raw.
+pub fn put_type(book: &[u8], k: usize, out: &mut [u8]) -> usize
     requires { ⌜ ReadyType (now book) k ⌝ }
     ensures { λ r. ⌜ Wrote (typeToString (typeOf (now (book .entry)) k)) (now (out .entry)) (now (out .exit)) r ⌝ }
 {

@@ -2,6 +2,7 @@
 use Prim.Native.Nat.{ℕ, _≤_, _<_, min}
 use native.Mathlib.Omega.{arith}
 use mathlib.Core.Path.{_≡_}
+use mathlib.Core.Bool.{Bool, true, false}
 use mathlib.Core.List.{List}
 use lib.ListN.{length}
 use borrow.Author.Tests.{lt-ltb, le-ltb}
@@ -11,8 +12,9 @@ use Rattle.basics.specs.Buffer.{bufferAfter}
 use Rattle.basics.specs.Write.{MOST, Wrote}
 use Rattle.book.specs.Refusal.{number}
 use Rattle.book.specs.declared.Refusal.{Refusal}
-use Rattle.book.specs.declared.Refusal.the-variants.{BufferTooShort}
+use Rattle.book.specs.declared.Refusal.the-variants.{NotInBook, BufferTooShort}
 use Rattle.solver_expr.specs.Print.{fitting, printedValue, Answered}
+use Rattle.solver_expr.specs.declared.Printed.{Printed}
 use Rattle.solver_expr.specs.declared.Printed.the-variants as answer
 
 pub answered-refused : {o : Outcome Text} (ref : Refusal) (t : List ℕ) → o ≡ refused (number ref) → Answered o (answer.Refused ref) t t
@@ -41,3 +43,12 @@ fitted-done {x} {t} e h w = answered-text (fits (length t) x (omega arith)) e w
 
 pub fitted-long : (x : Text) {t : List ℕ} → length t < length x → Answered (fitting (length t) x) (answer.Refused BufferTooShort) t t
 fitted-long x {t} h = answered-refused BufferTooShort t (too-long (length t) x h)
+
+-- refusal 7, and what comes behind it
+pub answered-outside : {test : Bool} (rest : Outcome Text) (t : List ℕ) → test ≡ true → Answered (refuse 7 test >> rest) (answer.Refused NotInBook) t t
+unfolding refuse _>>_ number
+answered-outside rest t e = answered-refused NotInBook t (rw e)
+
+pub answered-inside : {test : Bool} {rest : Outcome Text} {r : Printed} {t t' : List ℕ} → test ≡ false → Answered rest r t t' → Answered (refuse 7 test >> rest) r t t'
+unfolding refuse _>>_
+answered-inside e a = rw e a

@@ -5,3 +5,4 @@ mod Lower
 mod Tag
 mod Values
 pub mod Answers
+pub mod BookCalls

@@ -14,6 +14,7 @@ use Rattle.book.specs.RExpr.{RExpr}
 use Rattle.book.specs.Decode.{Kind, quantifierExpr, kinds, kindOf, constantOf, toRExprs, argsOf, termBy, termOver, term}
 use Rattle.book_test.specs.Promise.{Promise, GoodKind}
 use Rattle.book_test.proofs.TermLaw.{term-over}
+use Rattle.book_test.proofs.TermKinds.{each-kind}
 use Rattle.solver_expr.specs.SolverExpr.{SExpr, SExprs, S, PP, []ˢ, _∷ˢ_, funcAppl}
 use Rattle.solver_expr.specs.Lowering.{boundVarsToSExpr, annotate, quantifier, toSExpr, toSExprs, patternsToSExprs}
 use Rattle.solver_expr.specs.Values.{termOf, termsOf, withoutVariables}
@@ -79,13 +80,6 @@ module _ (b : Book) (t : ℕ) where
 
     -- the last kind
     pub last-kind : (k : ℕ) → field b terms t 0 ≡ k → (k ≡ 0 → ⊥) → (k ≡ 1 → ⊥) → (k ≡ 2 → ⊥) → (k ≡ 3 → ⊥) → (k ≡ 4 → ⊥) → (k ≡ 5 → ⊥) → (k ≡ 6 → ⊥) → (k ≡ 7 → ⊥) → field b terms t 0 ≡ 8
-    last-kind zero e n0 n1 n2 n3 n4 n5 n6 n7 = absurd (n0 refl)
-    last-kind (suc zero) e n0 n1 n2 n3 n4 n5 n6 n7 = absurd (n1 refl)
-    last-kind (suc (suc zero)) e n0 n1 n2 n3 n4 n5 n6 n7 = absurd (n2 refl)
-    last-kind (suc (suc (suc zero))) e n0 n1 n2 n3 n4 n5 n6 n7 = absurd (n3 refl)
-    last-kind (suc (suc (suc (suc zero)))) e n0 n1 n2 n3 n4 n5 n6 n7 = absurd (n4 refl)
-    last-kind (suc (suc (suc (suc (suc zero))))) e n0 n1 n2 n3 n4 n5 n6 n7 = absurd (n5 refl)
-    last-kind (suc (suc (suc (suc (suc (suc zero)))))) e n0 n1 n2 n3 n4 n5 n6 n7 = absurd (n6 refl)
-    last-kind (suc (suc (suc (suc (suc (suc (suc zero))))))) e n0 n1 n2 n3 n4 n5 n6 n7 = absurd (n7 refl)
-    last-kind (suc (suc (suc (suc (suc (suc (suc (suc zero)))))))) e n0 n1 n2 n3 n4 n5 n6 n7 = e
-    last-kind (suc (suc (suc (suc (suc (suc (suc (suc (suc k))))))))) e n0 n1 n2 n3 n4 n5 n6 n7 = absurd (omega (arith, P .term t l .known))
+    last-kind k e n0 n1 n2 n3 n4 n5 n6 n7 =
+        each-kind k (omega (arith, P .term t l .known)) (λ h. absurd (n0 h)) (λ h. absurd (n1 h)) (λ h. absurd (n2 h)) (λ h. absurd (n3 h)) (λ h. absurd (n4 h)) (λ h. absurd (n5 h))
+        (λ h. absurd (n6 h)) (λ h. absurd (n7 h)) (λ h. e ∙ h)

@@ -10,6 +10,7 @@ use book::format::CONSTANTS;
 
 mod lowering;
 
+pub use lowering::integer_bits;
 pub use lowering::to_sexpr;
 pub use lowering::type_to_sexpr;
 

@@ -53,13 +53,21 @@ fn literal(book: &[u8], t: usize) -> SExpr
     }
 }
 
+// The 64 bits of an Integer.
+pub fn integer_bits(book: &[u8], t: usize) -> u64
+    requires { ⌜ Ready (now book) terms t ⌝ }
+    ensures { λ r. ⌜ r ≡ field (now (book .entry)) terms t 1 + 2 ^ 32 * field (now (book .entry)) terms t 2 ⌝ }
+{
+    let low = field(book, TERMS, t, INTEGER_LOW);
+    let high = field(book, TERMS, t, INTEGER_HIGH);
+    (low + HIGH * high) as u64
+}
+
 fn integer(book: &[u8], t: usize) -> SExpr
     requires { ⌜ Ready (now book) terms t ⌝ }
     ensures { λ r. ⌜ r ≡ S (Integer (field (now (book .entry)) terms t 1 + 2 ^ 32 * field (now (book .entry)) terms t 2)) ⌝ }
 {
-    let low = field(book, TERMS, t, INTEGER_LOW);
-    let high = field(book, TERMS, t, INTEGER_HIGH);
-    SExpr::S(SName::Integer((low + HIGH * high) as u64))
+    SExpr::S(SName::Integer(integer_bits(book, t)))
 }
 
 fn without_variables(book: &[u8], t: usize) -> bool

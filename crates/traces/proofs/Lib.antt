@@ -1,3 +1,2 @@
 mod Lines
 mod Printing
-mod Answers

@@ -15,6 +15,7 @@ use Rattle.basics.proofs.Places.{at-as}
 use Rattle.book.specs.Book.{Book, noTerm, functions, axioms, lists, size, field, entries}
 use Rattle.book.specs.Decode.{functionOf, axiomTerm, axiomOf, term, program}
 use Rattle.book.proofs.Terms.{axioms-length, axiom-at}
+use Rattle.book_test.proofs.Entries.{entries-more}
 use Rattle.smt_engines.specs.Command.{Command, Assume, script}
 use Rattle.rsolver.specs.Step.{Step, skip, _⨟_, for, unless}
 use Rattle.rsolver.specs.LevelState.{LevelState, levelState, place, isDeclaredAt, joinAt, count, send, declareAt, miss, functionPlaces, axiomPlaces, sentBy}
@@ -24,7 +25,7 @@ use Rattle.rsolver.proofs.Fuel.{undeclared, mark-new, counts, undeclared-most}
 use Rattle.levels.specs.declared.Progress.{Progress}
 use Rattle.levels.specs.Did.{Did, Ready}
 use Rattle.levels.specs.Types.{engine, functionStep}
-use Rattle.levels.proofs.Steps.{did-skip, did-then, did-as, did-unless, did-not, did-send, did-mark, did-miss, entries-more}
+use Rattle.levels.proofs.Steps.{did-skip, did-then, did-as, did-unless, did-not, did-send, did-mark, did-miss}
 use Rattle.excluded.specs.Excluded.{Excludes}
 use Rattle.walk.specs.Walk.{inner, symbolsStep, operatorStep, axiomsStep, axiomStep, sentAxiomStep, allExplained, Walked, Included, Stands, NewSymbols}
 use Rattle.walk.proofs.Walks.{left, inside}

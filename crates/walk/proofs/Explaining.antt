@@ -13,11 +13,12 @@ use Rattle.basics.specs.Write.{MOST}
 use Rattle.basics.proofs.Bool.{and-true, and-false}
 use Rattle.book.specs.Book.{Book, constants, axioms, lists, field, entries}
 use Rattle.book.specs.Decode.{axiomOf}
+use Rattle.book_test.proofs.Entries.{entries-more}
 use Rattle.rsolver.specs.LevelState.{constantPlaces, functionPlaces, place, isDeclaredAt}
 use Rattle.levels.specs.declared.Progress.{Progress}
 use Rattle.levels.specs.Did.{Did}
 use Rattle.levels.specs.Types.{constantStep}
-use Rattle.levels.proofs.Steps.{did-unless, did-not, entries-more}
+use Rattle.levels.proofs.Steps.{did-unless, did-not}
 use Rattle.excluded.specs.Excluded.{isExcluded}
 use Rattle.walk.specs.Walk.{idStep, allExplained, Walked}
 

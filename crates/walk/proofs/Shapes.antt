@@ -5,112 +5,69 @@ use mathlib.Core.Path.{_≡_, refl, _∙_}
 use mathlib.Core.List.{List, [], _∷_, _++_}
 use Rattle.book.specs.Book.{Book, constants, terms, lists, patterns, size, field, entries}
 use Rattle.book.specs.RExpr.{RExpr, RExprs}
-use Rattle.book.specs.Decode.{kindOf, toRExprs, toRPatterns, constantOf, argsOf, patternOf, termBy, termOver, term, program}
-use Rattle.book_test.specs.Promise.{Promise, GoodKind, GoodLiteral, GoodBuiltIn, GoodApplication, GoodIfThenElse, GoodLet, GoodQuantifier}
-use Rattle.book_test.proofs.TermLaw.{term-over}
+use Rattle.book.specs.Decode.{kindOf, toRExprs, toRPatterns, constantOf, argsOf, patternOf, termBy, term, program}
+use Rattle.book_test.specs.Promise.{Promise}
+use Rattle.book_test.proofs.TermKinds.{each-kind, known, shape}
+use Rattle.book_test.proofs.Entries.{entries-more}
 use Rattle.rsolver.specs.Step.{skip, _⨟_}
 use Rattle.rsolver.specs.LevelState.{LevelState}
 use Rattle.rsolver.specs.REngine.{declareOperator, declareSymbols, declareAllSymbols, declarePatternSymbols}
 use Rattle.levels.specs.Types.{engine, typeStep, constantTypesStep, constantStep}
-use Rattle.levels.proofs.Steps.{entries-more}
 use Rattle.literals.specs.Literals.{newLiteralStep, literalStep}
 use Rattle.excluded.specs.Excluded.{withRange}
 use Rattle.walk.specs.Walk.{inner, idStep, symbolsStep, termsStep, patternsStep, operatorStep}
 
-last : (k : ℕ) → k < 9 → 1 < k → (k ≡ 2 → ⊥) → (k ≡ 3 → ⊥) → (k ≡ 4 → ⊥) → (k ≡ 5 → ⊥) → (k ≡ 6 → ⊥) → (k ≡ 7 → ⊥) → k ≡ 8
-last zero l m h2 h3 h4 h5 h6 h7 = absurd (omega arith)
-last (suc zero) l m h2 h3 h4 h5 h6 h7 = absurd (omega arith)
-last (suc (suc zero)) l m h2 h3 h4 h5 h6 h7 = absurd (h2 refl)
-last (suc (suc (suc zero))) l m h2 h3 h4 h5 h6 h7 = absurd (h3 refl)
-last (suc (suc (suc (suc zero)))) l m h2 h3 h4 h5 h6 h7 = absurd (h4 refl)
-last (suc (suc (suc (suc (suc zero))))) l m h2 h3 h4 h5 h6 h7 = absurd (h5 refl)
-last (suc (suc (suc (suc (suc (suc zero)))))) l m h2 h3 h4 h5 h6 h7 = absurd (h6 refl)
-last (suc (suc (suc (suc (suc (suc (suc zero))))))) l m h2 h3 h4 h5 h6 h7 = absurd (h7 refl)
-last (suc (suc (suc (suc (suc (suc (suc (suc zero)))))))) l m h2 h3 h4 h5 h6 h7 = refl
-last (suc (suc (suc (suc (suc (suc (suc (suc (suc k))))))))) l m h2 h3 h4 h5 h6 h7 = absurd (omega arith)
-
 module _ {b : Book} (P : Promise b) {t : ℕ} (here : t < size b terms) {k : ℕ} (kind : k ≡ field b terms t 0) where
-  shape : term b t ≡ termBy b (kindOf k) (term b) t
-  unfolding termOver
-  shape = term-over b P t here ∙ rw (← kind)
-
-  good : GoodKind (kindOf k) b t
-  good = rw kind (P .term t here .fields)
-
-  -- ---- what the record has
-  pub good-literal : k ≡ 2 → GoodLiteral b t
-  unfolding GoodKind kindOf
-  good-literal e = rw e at good
-
-  pub good-id : k ≡ 3 → field b terms t 1 < size b constants
-  unfolding GoodKind kindOf
-  good-id e = rw e at good
-
-  pub good-built-in : k ≡ 4 → GoodBuiltIn b t
-  unfolding GoodKind kindOf
-  good-built-in e = rw e at good
-
-  pub good-application : k ≡ 5 → GoodApplication b t
-  unfolding GoodKind kindOf
-  good-application e = rw e at good
-
-  pub good-if : k ≡ 6 → GoodIfThenElse b t
-  unfolding GoodKind kindOf
-  good-if e = rw e at good
-
-  pub good-let : k ≡ 7 → GoodLet b t
-  unfolding GoodKind kindOf
-  good-let e = rw e at good
-
-  pub good-quantifier : k ≡ 8 → GoodQuantifier b t
-  unfolding GoodKind kindOf
-  good-quantifier e = rw e at good
+  is : term b t ≡ termBy b (kindOf k) (term b) t
+  is = shape P here kind
 
   -- the kind behind all others
   pub last-kind : 1 < k → (k ≡ 2 → ⊥) → (k ≡ 3 → ⊥) → (k ≡ 4 → ⊥) → (k ≡ 5 → ⊥) → (k ≡ 6 → ⊥) → (k ≡ 7 → ⊥) → k ≡ 8
-  last-kind m h2 h3 h4 h5 h6 h7 = last k (rw kind (P .term t here .known)) m h2 h3 h4 h5 h6 h7
+  last-kind m h2 h3 h4 h5 h6 h7 =
+      each-kind k (known P here kind) (λ e. absurd (omega arith)) (λ e. absurd (omega arith)) (λ e. absurd (h2 e)) (λ e. absurd (h3 e)) (λ e. absurd (h4 e)) (λ e. absurd (h5 e))
+      (λ e. absurd (h6 e)) (λ e. absurd (h7 e)) (λ e. e)
 
   -- ---- what is walked
   module _ (x : List ℕ) (s : LevelState) where
     pub of-boolean : k ≡ 0 → symbolsStep b t x s ≡ skip s
     unfolding symbolsStep declareSymbols termBy kindOf
-    of-boolean e = rw (shape, e)
+    of-boolean e = rw (is, e)
 
     pub of-integer : k ≡ 1 → symbolsStep b t x s ≡ skip s
     unfolding symbolsStep declareSymbols termBy kindOf
-    of-integer e = rw (shape, e)
+    of-integer e = rw (is, e)
 
     pub of-literal : k ≡ 2 → symbolsStep b t x s ≡ literalStep b t s
     unfolding symbolsStep declareSymbols termBy kindOf literalStep newLiteralStep
-    of-literal e = rw (shape, e)
+    of-literal e = rw (is, e)
 
     pub of-id : k ≡ 3 → symbolsStep b t x s ≡ idStep b (field b terms t 1) x s
     unfolding symbolsStep declareSymbols termBy kindOf idStep constantStep constantOf
-    of-id e = rw (shape, e)
+    of-id e = rw (is, e)
 
     pub of-built-in : k ≡ 4 → symbolsStep b t x s ≡ termsStep b (field b terms t 2) (field b terms t 3) x s
     unfolding symbolsStep declareSymbols termBy kindOf termsStep declareOperator skip _⨟_
-    of-built-in e = rw (shape, e)
+    of-built-in e = rw (is, e)
 
     pub of-application : k ≡ 5 → symbolsStep b t x s ≡ (operatorStep b (field b terms t 1) x ⨟ termsStep b (field b terms t 2) (field b terms t 3) x) s
     unfolding symbolsStep declareSymbols termBy kindOf termsStep operatorStep
-    of-application e = rw (shape, e)
+    of-application e = rw (is, e)
 
     pub of-if : k ≡ 6 → symbolsStep b t x s ≡ (symbolsStep b (field b terms t 1) x ⨟ symbolsStep b (field b terms t 2) x ⨟ symbolsStep b (field b terms t 3) x) s
     unfolding symbolsStep declareSymbols termBy kindOf
-    of-if e = rw (shape, e)
+    of-if e = rw (is, e)
 
     pub of-let : k ≡ 7 → symbolsStep b t x s
         ≡ (typeStep b (field b constants (field b terms t 1) 1) ⨟ symbolsStep b (field b terms t 2) x ⨟ symbolsStep b (field b terms t 3) (field b terms t 1 ∷ x)) s
     unfolding symbolsStep declareSymbols termBy kindOf typeStep constantOf
-    of-let e = rw (shape, e)
+    of-let e = rw (is, e)
 
     pub of-quantifier : k ≡ 8 → symbolsStep b t x s
         ≡ (constantTypesStep b (field b terms t 2) (field b terms t 3)
         ⨟ patternsStep b (field b terms t 4) (field b terms t 5) (withRange b (field b terms t 2) (field b terms t 3) x)
         ⨟ symbolsStep b (field b terms t 6) (withRange b (field b terms t 2) (field b terms t 3) x)) s
     unfolding symbolsStep declareSymbols termBy kindOf constantTypesStep patternsStep withRange
-    of-quantifier e = rw (shape, e)
+    of-quantifier e = rw (is, e)
 
 -- ---- lists of terms and of patterns, one more
 module _ (b : Book) (x : List ℕ) where

@@ -286,6 +286,31 @@ declaring =
       lists = 2 ∷ 3 ∷ 0 ∷ 6 ∷ 0 ∷ 1 ∷ 1 ∷ 12 ∷ 13 ∷ [];
     })
 
+-- quantifiers with and without variables and patterns
+unfoldable pub quantified : Book
+quantified =
+    written (record {
+      letters = ascii "px";
+      names = 0 ∷ 1 ∷ 1 ∷ 1 ∷ [];
+      types = [];
+      constants = 0 ∷ 0 ∷ 1 ∷ 1 ∷ [];  -- p of Bool, x of Int
+      functions = [];
+      axioms = [];
+      patterns = 0 ∷ 1 ∷ 0 ∷ 0 ∷ [];
+      terms =
+          3 ∷ 0 ∷ 0 ∷ 0 ∷ 0 ∷ 0 ∷ 0 ∷  -- 0: p
+          8 ∷ 1 ∷ 0 ∷ 0 ∷ 0 ∷ 0 ∷ 0 ∷  -- 1: forall, no variables, no patterns, p
+          3 ∷ 1 ∷ 0 ∷ 0 ∷ 0 ∷ 0 ∷ 0 ∷  -- 2: x, in pattern 0
+          3 ∷ 0 ∷ 0 ∷ 0 ∷ 0 ∷ 0 ∷ 0 ∷  -- 3: p
+          8 ∷ 0 ∷ 0 ∷ 0 ∷ 1 ∷ 1 ∷ 3 ∷  -- 4: exists, no variables, pattern 0, p
+          3 ∷ 0 ∷ 0 ∷ 0 ∷ 0 ∷ 0 ∷ 0 ∷  -- 5: p
+          8 ∷ 0 ∷ 2 ∷ 1 ∷ 4 ∷ 1 ∷ 5 ∷  -- 6: exists x, the empty pattern, p
+          0 ∷ 0 ∷ 0 ∷ 0 ∷ 0 ∷ 0 ∷ 0 ∷  -- 7: false
+          8 ∷ 1 ∷ 2 ∷ 2 ∷ 0 ∷ 0 ∷ 7 ∷ [];  -- 8: forall x and p, false
+      contexts = [];
+      lists = 2 ∷ 0 ∷ 1 ∷ 0 ∷ 1 ∷ [];  -- entry 1: pattern 0; entry 4: pattern 1, which is empty
+    })
+
 unfoldable pub books : Unit {0}
-unfolding bytes32 contents bodies laid written sample small none shapes literals explained cycle declaring
+unfolding bytes32 contents bodies laid written sample small none shapes literals explained cycle declaring quantified
 books = tt

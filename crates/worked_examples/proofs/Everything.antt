@@ -28,6 +28,7 @@ use Rattle.rsolver.specs.LevelState.{place, literalPlace, joinAt, forget, count
 use Rattle.rsolver.specs.SolverState.{sameMarker, isIn, with′, newSolver, isTop as isTopItem, pushed, popTo, popped, told, marked, named, missed}
 use Rattle.rsolver.specs.REngine.{withConstants, declareType, declareConstant, declareFunction, declareLiteral, assume, assumeNot, check, askModel, endCheck, declareNewTypes, declareTypeOf, sendAxiom, includeAxiom, declareOperator, declareSymbols, declareAllSymbols, declarePatternSymbols, walk, declareNewSymbols, enter, adjustContext, popTimes, setContext, askGoal, closeGoal}
 use Rattle.rsolver.specs.Trace.{traceLine, traceOf as traceOfPath, printTrace, traceText, traceCall}
+use Rattle.rsolver.specs.Listing.{COMMA, boundVarToString, boundVarsToString, customLiteralToString, quantifierOpening, rexprToString, rexprStrings, patternsToString, rexprListToString, listingLine, printContext, printProofObligation, listingText, listingCall}
 use Rattle.solvers.specs.Session.{textOf, freshSession, resume, moved, asked, move, ask, closed, isUnsat, replied, giveReply, giveModel}
 use Rattle.solvers.specs.Calls.{owes, goalFits, isSession, reasonOf, fitting, moveCall, askCall, replyCall, modelCall, hostOf, call}
 use Rattle.solvers.specs.Left.{answerValue, valuesBy, values, reason, sessionAfter, left, called}
@@ -51,11 +52,16 @@ unfoldable pub sending : Unit {0}
 unfolding CMD_PUSH CMD_POP CMD_CHECK_SAT CMD_GET_MODEL contextToString assumption declaration commandToString script skip _⨟_ for doUnless unless doEither either place literalPlace joinAt forget count hasName nameIn noLevels fresh isTop isDeclaredAt push pop send declareAt miss sentBy sameMarker isIn with′ newSolver isTopItem pushed popTo popped told marked named missed withConstants declareType declareConstant declareFunction declareLiteral assume assumeNot check askModel endCheck declareNewTypes declareTypeOf sendAxiom includeAxiom declareOperator declareSymbols declareAllSymbols declarePatternSymbols walk declareNewSymbols enter adjustContext popTimes setContext askGoal closeGoal traceLine traceOfPath printTrace traceText traceCall
 sending = tt
 
+-- what is to be proved, as the fitter reads it
+unfoldable pub listing : Unit {0}
+unfolding COMMA boundVarToString boundVarsToString customLiteralToString quantifierOpening rexprToString rexprStrings patternsToString rexprListToString listingLine printContext printProofObligation listingText listingCall
+listing = tt
+
 -- the session's calls, lists of them, and the reader of their text
 unfoldable pub calling : Unit {0}
 unfolding textOf freshSession resume moved asked move ask closed isUnsat replied giveReply giveModel owes goalFits isSession reasonOf fitting moveCall askCall replyCall modelCall hostOf call answerValue valuesBy values reason sessionAfter left called bytes4 owedNumber owedOf writeImage noSession isImage readImage imageAfter calledOnImage shared standing settle nodeCommands levelsOf goalState goalCommands denialCommands goalLevels levelsFor entering moveCommands questionCommands present nextReply next nodeLevels mustLive sessionAt replyCommands said after runFrom start run straightTo straight moveByBook askByBook callByBook onReply doCall doIfAccepted doFrom doAll glue cut lines kind join dropped hearKind hear hearAll read
 calling = tt
 
 unfoldable pub everything : Unit {0}
-unfolding testing printing sending calling
+unfolding testing printing sending listing calling
 everything = tt

@@ -1,6 +1,7 @@
 use Rattle.records.proofs.Readers.{reads-term}
 use native.Mathlib.Omega.{arith}
-use Rattle.literals.proofs.Names.{none-here, literal-here, other-here, good-literal}
+use Rattle.literals.proofs.Names.{none-here, literal-here, other-here}
+use Rattle.book_test.proofs.TermKinds.{good-literal}
 use borrow.Author.Needs.{needs}
 use Rattle.literals.proofs.declares_name.Statement.{statement}
 use Rattle.literals.proofs.declares_name.Tie as tie
@@ -22,7 +23,7 @@ field-requires : tie.Need-field-requires
 field-requires c κs = reads-term (c .before .before .before .before .before .before .pre .0) 0 (omega arith) (c .before .before .before .before .before .before .pre .1)
 
 has-name-requires : tie.Need-has-name-requires
-has-name-requires c κs = (c .before .before .before .before .before .before .before .before .pre .0, c .before .before .before .before .before .before .before .before .pre .1, good-literal _ (c .before .before .before .before .before .before .before .before .pre .0) (c .before .before .before .before .before .before .before .before .pre .1) (c .before .field .ensures .is) (c .if2 .taken))
+has-name-requires c κs = (c .before .before .before .before .before .before .before .before .pre .0, c .before .before .before .before .before .before .before .before .pre .1, good-literal (c .before .before .before .before .before .before .before .before .pre .0) (c .before .before .before .before .before .before .before .before .pre .1) (c .before .field .ensures .is) (c .if2 .taken))
 
 returns-2 : tie.Need-returns-2
 returns-2 c = literal-here _ _ _ _ (c .before .before .before .if1 .left) (c .before .before .field .ensures .is) (c .before .if2 .taken) (c .has-name .ensures)

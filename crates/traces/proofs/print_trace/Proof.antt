@@ -1,6 +1,7 @@
 use Rattle.book.specs.Book.{depthMost}
 use Rattle.basics.proofs.Laws.{wrote-length}
-use Rattle.traces.proofs.Printing.{Printing, printing-start, node-below, printing-more, printing-done}
+use Rattle.traces.proofs.Printing.{Printing, printing-start, printing-more, printing-done}
+use Rattle.contexts.proofs.PathLines.{node-below}
 use lib.ListN.{length}
 use mathlib.Core.Path.{_≡_}
 use native.Mathlib.Omega.{arith}
@@ -24,16 +25,16 @@ array-read-trace-line : tie.Need-array-read-trace-line Inv-loop μ-loop
 array-read-trace-line c = omega (arith, c .before .before .loop .inv .within, c .before .before .before .before .path-of .ensures .few)
 
 trace-line-requires : tie.Need-trace-line-requires Inv-loop μ-loop
-trace-line-requires c κs = let n : length (c .before .before .before .before .before .path-of .result .nodes) ≡ depthMost = search needs in node-below _ (c .before .before .before .before .before .before .before .before .pre .promise) _ (c .before .before .before .before .before .before .before .before .pre .inside) _ _ n (c .before .before .before .before .before .path-of .ensures .few) (c .before .before .before .before .before .path-of .ensures .is) _ (omega (arith, c .before .before .before .loop .inv .within))
+trace-line-requires c κs = let n : length (c .before .before .before .before .before .path-of .result .nodes) ≡ depthMost = search needs in node-below _ _ n (c .before .before .before .before .before .path-of .ensures .few) _ (c .before .before .before .before .before .before .before .before .pre .promise) _ (c .before .before .before .before .before .before .before .before .pre .inside) (c .before .before .before .before .before .path-of .ensures .is) _ (omega (arith, c .before .before .before .loop .inv .within))
 
 loop-again : tie.Need-loop-again Inv-loop μ-loop
-loop-again c = let n : length (c .before .before .before .before .before .before .before .before .before .path-of .result .nodes) ≡ depthMost = search needs in printing-more _ (c .before .before .before .before .before .before .before .before .before .before .before .before .pre .promise) _ (c .before .before .before .before .before .before .before .before .before .before .before .before .pre .inside) _ _ n (c .before .before .before .before .before .before .before .before .before .path-of .ensures .few) (c .before .before .before .before .before .before .before .before .before .path-of .ensures .is) (omega arith) (c .before .before .before .before .before .before .before .loop .inv) (omega arith) (c .before .before .before .before .before .clip .ensures) (c .before .before .before .trace-line .ensures) (c .sum .ensures)
+loop-again c = let n : length (c .before .before .before .before .before .before .before .before .before .path-of .result .nodes) ≡ depthMost = search needs in printing-more _ _ n (c .before .before .before .before .before .before .before .before .before .path-of .ensures .few) (omega arith) (c .before .before .before .before .before .before .before .loop .inv) (omega arith) (c .before .before .before .before .before .clip .ensures) (c .before .before .before .trace-line .ensures) (c .sum .ensures)
 
 same-length : tie.Need-same-length Inv-loop μ-loop
 same-length c = wrote-length (c .before .loop .inv .wrote)
 
 returns : tie.Need-returns Inv-loop μ-loop
-returns c = let n : length (c .before .before .before .path-of .result .nodes) ≡ depthMost = search needs in printing-done _ (c .before .before .before .before .before .before .pre .promise) _ (c .before .before .before .before .before .before .pre .inside) _ _ n (c .before .before .before .path-of .ensures .few) (c .before .before .before .path-of .ensures .is) (omega arith) (c .before .loop .inv)
+returns c = let n : length (c .before .before .before .path-of .result .nodes) ≡ depthMost = search needs in printing-done _ _ n (c .before .before .before .path-of .ensures .few) _ (c .before .before .before .before .before .before .pre .promise) _ (c .before .before .before .before .before .before .pre .inside) (c .before .before .before .path-of .ensures .is) (omega arith) (c .before .loop .inv)
 
 pub print-trace-spec : {M : Type 1} → statement M
 print-trace-spec =

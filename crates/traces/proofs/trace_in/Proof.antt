@@ -1,21 +1,23 @@
-use Rattle.book.specs.Refusal.{number}
-use Rattle.solver_expr.proofs.Answers.{answered-refused, answered-text, measured}
-use Rattle.traces.proofs.Answers.{not-here, too-long, fits}
 use native.Mathlib.Omega.{arith}
+use borrow.Author.Tests.{lt-ltb, le-ltb}
+use Rattle.solver_expr.proofs.Answers.{measured, fitted-done, fitted-long, answered-outside, answered-inside}
+use Rattle.book.specs.Book.{contexts, size}
+use Rattle.traces.specs.Call.{traceIn}
 use borrow.Author.Needs.{needs}
 use Rattle.traces.proofs.trace_in.Statement.{statement}
 use Rattle.traces.proofs.trace_in.Tie as tie
 
 returns : tie.Need-returns
-unfolding number
-returns c = answered-refused _ _ (not-here _ _ _ (omega (arith, c .before .count .ensures .is, c .if1 .taken)))
+unfolding traceIn
+returns c = answered-outside _ _ (lt-ltb (size (c .before .before .before .before .args .book .now) contexts) (c .before .before .before .before .args .node) (omega (arith, c .before .count .ensures .is, c .if1 .taken)))
 
 returns-2 : tie.Need-returns-2
-unfolding number
-returns-2 c = answered-refused _ _ (too-long _ _ _ (omega (arith, c .before .before .before .before .before .count .ensures .is, c .before .before .before .before .if1 .left)) (omega (arith, c .before .before .print-trace .ensures .counted, c .if2 .taken)))
+unfolding traceIn
+returns-2 c = answered-inside (le-ltb (size (c .before .before .before .before .before .before .before .before .args .book .now) contexts) (c .before .before .before .before .before .before .before .before .args .node) (omega (arith, c .before .before .before .before .before .count .ensures .is, c .before .before .before .before .if1 .left))) (fitted-long _ (omega (arith, c .before .before .print-trace .ensures .counted, c .if2 .taken)))
 
 returns-3 : tie.Need-returns-3
-returns-3 c = let l = measured (c .before .before .before .before .before .before .print-trace .ensures .counted) (c .before .before .before .before .if2 .left) (omega (arith, c .before .before .before .before .before .before .before .before .before .before .before .before .good)) in answered-text (fits _ _ _ (omega (arith, c .before .before .before .before .before .before .before .before .before .count .ensures .is, c .before .before .before .before .before .before .before .before .if1 .left)) (omega (arith, l, c .before .before .before .before .if2 .left))) l (c .before .before .print-trace2 .ensures)
+unfolding traceIn
+returns-3 c = answered-inside (le-ltb (size (c .before .before .before .before .before .before .before .before .before .before .before .before .args .book .now) contexts) (c .before .before .before .before .before .before .before .before .before .before .before .before .args .node) (omega (arith, c .before .before .before .before .before .before .before .before .before .count .ensures .is, c .before .before .before .before .before .before .before .before .if1 .left))) (fitted-done (measured (c .before .before .before .before .before .before .print-trace .ensures .counted) (c .before .before .before .before .if2 .left) (omega (arith, c .before .before .before .before .before .before .before .before .before .before .before .before .good))) (c .before .before .before .before .if2 .left) (c .before .before .print-trace2 .ensures))
 
 pub trace-in-spec : {M : Type 1} → statement M
 trace-in-spec =

@@ -9,7 +9,8 @@ use Rattle.records.proofs.Readers.{reads-list, reads-term, reads-pattern, reads
 use Rattle.levels.proofs.Steps.{ready-next, did-length}
 use Rattle.excluded.proofs.Bits.{excludes-listed, listed}
 use Rattle.walk.specs.Walk.{Walked, Included, termsStep, patternsStep, axiomsStep}
-use Rattle.walk.proofs.Shapes.{good-literal, good-id, good-built-in, good-application, good-if, good-let, good-quantifier, last-kind}
+use Rattle.book_test.proofs.TermKinds.{good-literal, good-id, good-built-in, good-application, good-if, good-let, good-quantifier}
+use Rattle.walk.proofs.Shapes.{last-kind}
 use Rattle.walk.proofs.Walks.{measure, term-fewer, terms-fewer, patterns-fewer, operator-fewer, axioms-fewer, type-fewer, variables-fewer, function-fewer, walked-none, walked-literal, walked-id, walked-built-in, walked-application, walked-if, walked-let, walked-quantifier, ranged-long, terms-none, terms-more, patterns-none, patterns-more}
 use Rattle.walk.proofs.Axioms.{operator-old, operator-new, axioms-none, axioms-more, axiom-missing, axiom-old, axiom-early, axiom-sent, mark-fewer, sent-axiom}
 use borrow.Fn.Kinds.{In}
