@@ -200,6 +200,13 @@ pub fn nests_of(most: usize) -> Vec<(&'static str, Maker)> {
         .into()
 }
 
+/// The same of one shape alone.
+pub fn nest_of(shape: &str, most: usize) -> Maker {
+    let found = STEPS.into_iter().find(|(name, ..)| *name == shape);
+    let (_, terms, step) = found.expect("the name of a shape");
+    nest(most, terms, step)
+}
+
 /// A term with so many arguments of so many letters, the last of its book.
 pub fn flat(arguments: usize, letters: usize) -> Maker {
     let mut m = Maker::default();

@@ -5,7 +5,9 @@
 #![deny(warnings)]
 
 mod bench;
+mod bench_listing;
 mod bench_sessions;
+mod bench_table;
 mod book;
 mod buffers;
 mod calls;
