@@ -1,9 +1,10 @@
 //! Speed of a move and an ask as a ratio to the reference, both measured in
 //! this run: cost against path length, term count and literal count.
 
+use crate::bench_table::TERMS;
 use crate::library::book_test;
 use crate::made_costly::{alike, explained_often};
-use crate::made_terms::{flat, nests_of};
+use crate::made_terms::{flat, nest_of};
 use crate::session_library::{self as library, Answer, Buffers};
 use crate::timing::{fastest, percent, ratio};
 use leskofar_reference::book::{kind, BOOL, INT};
@@ -15,8 +16,6 @@ use std::hint::black_box;
 
 /// Up to the deepest node.
 const DEPTHS: [usize; 4] = [8, 16, 32, 64];
-/// Up to the most terms that a book can have.
-const TERMS: [usize; 4] = [128, 256, 512, 1024];
 /// Up to nearly as many.
 const LITERALS: [usize; 4] = [125, 250, 500, 1000];
 /// Entries of ExplainedBy and Explains, up to as many as a book can have.
@@ -209,10 +208,7 @@ pub fn run() {
         bench_last_term("flat terms", terms, flat(terms - 1, LETTERS));
     }
     for terms in TERMS {
-        let nests = nests_of(terms).into_iter();
-        for (_, m) in nests.filter(|(name, _)| *name == NEST) {
-            bench_last_term("nested terms", terms, m);
-        }
+        bench_last_term("nested terms", terms, nest_of(NEST, terms));
     }
     for count in LITERALS {
         bench_last_term("literals", count, literals(count));

@@ -1,7 +1,9 @@
 //! The book test against the reference: the answer, and every scratch byte.
 
 use crate::library;
-use crate::made_books::{chain, each_number_changed, faults, full, good_books, over_the_limits};
+use crate::made_books::{
+    chain, each_number_changed, faulty_books, full, good_books, over_the_limits,
+};
 use crate::tally::{Met, Tally};
 use leskofar_reference::book_test::SCRATCH_SIZE;
 use leskofar_reference::damage::damaged;
@@ -90,19 +92,7 @@ pub fn run(tally: &mut Tally) {
     });
     tally.group("book test, every refusal with every later one", || {
         let mut met = Met::default();
-        for choice in 0..1 << faults().len() {
-            let mut m = full();
-            for (k, fault) in faults().iter().enumerate() {
-                if choice >> k & 1 == 1 {
-                    fault(&mut m);
-                }
-            }
-            let mut book = m.book();
-            compare(&book, SCRATCH_SIZE, &mut met)?;
-            // A byte too many is 2.
-            book.push(0);
-            compare(&book, SCRATCH_SIZE, &mut met)?;
-        }
+        compare_all(&faulty_books(), &mut met)?;
         met.all_of(&[0, 2, 3, 4, 5, 6])
     });
     let random_books = tally.share(RANDOM_BOOKS);

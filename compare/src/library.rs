@@ -44,6 +44,17 @@ mod exports {
             text_len: usize,
         ) -> Printed;
 
+        pub fn leskofar_listing(
+            book: *const u8,
+            book_len: usize,
+            scratch: *mut u8,
+            scratch_len: usize,
+            node: u32,
+            goal: u32,
+            text: *mut u8,
+            text_len: usize,
+        ) -> Printed;
+
         pub fn leskofar_operator(code: u32, text: *mut u8, text_len: usize) -> Printed;
     }
 }
@@ -97,6 +108,22 @@ pub fn trace(book: &[u8], scratch: &mut [u8], node: u32, text: &mut [u8]) -> Pri
             scratch.as_mut_ptr(),
             scratch.len(),
             node,
+            text.as_mut_ptr(),
+            text.len(),
+        )
+    }
+}
+
+pub fn listing(book: &[u8], scratch: &mut [u8], node: u32, goal: u32, text: &mut [u8]) -> Printed {
+    // The slices are valid for their lengths, and do not overlap.
+    unsafe {
+        exports::leskofar_listing(
+            book.as_ptr(),
+            book.len(),
+            scratch.as_mut_ptr(),
+            scratch.len(),
+            node,
+            goal,
             text.as_mut_ptr(),
             text.len(),
         )

@@ -133,7 +133,7 @@ fn number(book: &[u8], place: usize) -> u32 {
 
 /// A fault in the records for each refusal from 3 to 6, to be put together so
 /// that the order shows.
-pub fn faults() -> [fn(&mut Maker); 4] {
+fn faults() -> [fn(&mut Maker); 4] {
     [
         |m| m.names.resize(Section::Names.most() + 1, [0, 0]),
         |m| m.letters.push(0x1F),
@@ -149,4 +149,22 @@ pub fn faults() -> [fn(&mut Maker); 4] {
             }
         },
     ]
+}
+
+/// The full book with every choice of those faults, and each with a byte too
+/// many, which is 2.
+pub fn faulty_books() -> Vec<Vec<u8>> {
+    let mut books = Vec::new();
+    for choice in 0..1 << faults().len() {
+        let mut m = full();
+        for (k, fault) in faults().iter().enumerate() {
+            if choice >> k & 1 == 1 {
+                fault(&mut m);
+            }
+        }
+        let book = m.book();
+        let longer = [&book[..], &[0]].concat();
+        books.extend([book, longer]);
+    }
+    books
 }

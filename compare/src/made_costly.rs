@@ -39,12 +39,35 @@ pub fn overlapping(entries: usize) -> Maker {
     m.constant(SHARED, INT);
     m.pattern(&[]);
     m.lists = vec![0; entries];
-    let all = entries as u32;
-    let mut body = m.boolean(true);
-    while m.terms.len() < Section::Terms.most() {
-        body = m.term(kind::QUANTIFIER, [1, 0, all, 0, all, body]);
+    add_nest(&mut m, Section::Terms.most());
+    m
+}
+
+/// The same with as many constants and patterns as there can be, with names of
+/// so many letters for the constant and its type, and with the quantifiers
+/// shared out among the nodes of a path.
+pub fn longest(letters: usize, depth: usize) -> Maker {
+    let mut m = Maker::default();
+    let typ = m.user_type(&"t".repeat(letters));
+    let [name] = m.types[0];
+    m.constants.push([name, typ]);
+    m.pattern(&[]);
+    m.lists = vec![0; Section::Lists.most()];
+    for node in 0..depth {
+        let premise = add_nest(&mut m, Section::Terms.most() / depth);
+        m.context(node as u32, premise);
     }
     m
+}
+
+/// So many terms inside each other, quantifiers over all entries.
+fn add_nest(m: &mut Maker, terms: usize) -> u32 {
+    let all = m.lists.len() as u32;
+    let mut whole = m.boolean(true);
+    for _ in 1..terms {
+        whole = m.term(kind::QUANTIFIER, [1, 0, all, 0, all, whole]);
+    }
+    whole
 }
 
 /// As many names as there can be, nearly, each so many letters long, which

@@ -2,6 +2,7 @@
 //! as a book can.
 
 use leskofar_reference::book::{kind, Section, BOOL, INT};
+use leskofar_reference::book_test::MOST_DEPTH;
 use leskofar_reference::maker::Maker;
 
 const INTEGERS: [i64; 14] = [
@@ -132,7 +133,7 @@ impl Nest {
 }
 
 /// Each shape, with the terms that a step of it adds.
-const STEPS: [(&str, usize, Step); 10] = [
+const STEPS: [(&str, usize, Step); 13] = [
     ("only arguments", 1, |n, inner| n.appl(&[inner])),
     ("first arguments", 2, |n, inner| {
         let leaf = n.leaf();
@@ -145,6 +146,14 @@ const STEPS: [(&str, usize, Step); 10] = [
     ("guards", 3, |n, inner| {
         let [thn, els] = [n.leaf(), n.leaf()];
         n.maker.if_then_else(inner, thn, els)
+    }),
+    ("then branches", 3, |n, inner| {
+        let [guard, els] = [n.leaf(), n.leaf()];
+        n.maker.if_then_else(guard, inner, els)
+    }),
+    ("else branches", 3, |n, inner| {
+        let [guard, thn] = [n.leaf(), n.leaf()];
+        n.maker.if_then_else(guard, thn, inner)
     }),
     ("right sides", 2, |n, inner| {
         let body = n.leaf();
@@ -170,6 +179,12 @@ const STEPS: [(&str, usize, Step); 10] = [
         let patterns = n.maker.list(&[pattern, empty]);
         n.quantifier(n.vv, patterns, body)
     }),
+    ("last pattern terms", 3, |n, inner| {
+        let [body, leaf] = [n.leaf(), n.leaf()];
+        let pattern = n.maker.pattern(&[leaf, inner]);
+        let patterns = n.maker.list(&[pattern]);
+        n.quantifier([0, 0], patterns, body)
+    }),
 ];
 
 /// For each shape a book whose last term has all the others inside it, as many
@@ -185,12 +200,56 @@ pub fn nests_of(most: usize) -> Vec<(&'static str, Maker)> {
         .into()
 }
 
+/// The same of one shape alone.
+pub fn nest_of(shape: &str, most: usize) -> Maker {
+    let found = STEPS.into_iter().find(|(name, ..)| *name == shape);
+    let (_, terms, step) = found.expect("the name of a shape");
+    nest(most, terms, step)
+}
+
 /// A term with so many arguments of so many letters, the last of its book.
 pub fn flat(arguments: usize, letters: usize) -> Maker {
     let mut m = Maker::default();
     let v = m.constant(&"v".repeat(letters), INT);
     let args = ids(&mut m, v, arguments);
     m.built_in("and", &args);
+    m
+}
+
+/// Nodes as deep as they can be, each with such a term, and so many terms in
+/// all; the last is the last node's.
+pub fn deepest_path(terms: usize, letters: usize) -> Maker {
+    let mut m = Maker::default();
+    let v = m.constant(&"v".repeat(letters), INT);
+    for node in 0..MOST_DEPTH {
+        let args = ids(&mut m, v, terms / MOST_DEPTH - 1);
+        let premise = m.built_in("and", &args);
+        m.context(node as u32, premise);
+    }
+    m
+}
+
+/// Every kind of term that has a name, and a node, all names being the same of
+/// so many letters.
+pub fn long_names(letters: usize) -> Maker {
+    let mut m = Maker::default();
+    let typ = m.user_type(&"n".repeat(letters));
+    let [name] = m.types[0];
+    m.constants.push([name, typ]);
+    m.functions.push([name, typ, 0, 0, 0, 0]);
+    let v = m.constants.len() as u32 - 1;
+    let f = m.functions.len() as u32 - 1;
+    let premise = m.term(kind::CUSTOM_LITERAL, [name, typ]);
+    m.context(0, premise);
+    let args = [m.id(v), m.term(kind::CUSTOM_LITERAL, [name, typ])];
+    let [start, count] = m.list(&args);
+    let built_in = m.term(kind::BUILT_IN, [name, start, count]);
+    let applied = m.apply(f, &[built_in]);
+    let body = m.id(v);
+    let bound = m.let_expr(v, applied, body);
+    let hints = [m.id(v)];
+    let pattern = m.pattern(&hints);
+    m.quantifier(false, &[v, v], &[pattern], bound);
     m
 }
 
@@ -209,8 +268,15 @@ fn nest(most: usize, terms: usize, step: Step) -> Maker {
         patterns,
     };
     let mut inner = n.leaf();
-    while n.maker.terms.len() + terms <= most && n.maker.patterns.len() < Section::Patterns.most() {
-        inner = step(&mut n, inner);
+    while n.maker.terms.len() + terms <= most {
+        // There are fewer patterns than terms: arguments go on from there.
+        let patterns_left = n.maker.patterns.len() < Section::Patterns.most();
+        inner = if patterns_left {
+            step(&mut n, inner)
+        } else {
+            let leaf = n.leaf();
+            n.appl(&[inner, leaf])
+        };
     }
     n.maker
 }

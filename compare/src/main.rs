@@ -5,20 +5,27 @@
 #![deny(warnings)]
 
 mod bench;
+mod bench_listing;
 mod bench_sessions;
+mod bench_table;
 mod book;
 mod buffers;
 mod calls;
 mod damaged_images;
 mod library;
+mod listing;
+mod listing_limits;
+mod listing_shapes;
 mod lists;
 mod made_books;
 mod made_costly;
 mod made_rules;
 mod made_sessions;
 mod made_terms;
+mod printed;
 mod printing;
 mod random_calls;
+mod random_inputs;
 mod script;
 mod seen;
 mod session_books;
@@ -50,6 +57,7 @@ fn main() -> ExitCode {
     let mut tally = tally::Tally::new(one_of);
     book::run(&mut tally);
     printing::run(&mut tally);
+    listing::run(&mut tally);
     sessions::run(&mut tally);
     session_images::run(&mut tally);
     session_tours::run(&mut tally);

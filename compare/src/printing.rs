@@ -1,25 +1,22 @@
 //! Printing against the reference: the answer, every byte of the text, every
 //! byte behind it, and every scratch byte.
 
-use crate::buffers::Fenced;
-use crate::library::{self, Printed};
+use crate::library;
 use crate::made_books::{chain, full, good_books};
 use crate::made_terms::{borders, nests};
+use crate::printed::{compare, left, rooms_around, told, LONGER, LONGEST, ON_A_BOOK, SHORT_ROOMS};
+use crate::random_inputs::{any_book, any_number, any_term, good_book, scratch_length};
 use crate::shapes::{visit, SHAPES};
 use crate::tally::{Met, Tally};
 use leskofar_reference::book_test::{check, MOST_DEPTH, SCRATCH_SIZE};
-use leskofar_reference::damage::damaged;
 use leskofar_reference::lower::to_sexpr;
 use leskofar_reference::maker::{sample, small};
 use leskofar_reference::operators::NAMES;
 use leskofar_reference::program::Program;
-use leskofar_reference::random::{Random, HARDLY_EVER, OFTEN, RARELY};
-use leskofar_reference::random_books::{random_book, Counts};
+use leskofar_reference::random::Random;
 use leskofar_reference::sexpr::SExprPrintConfig;
 use leskofar_reference::sink::Sink;
 
-/// What a scratch holds before a call.
-const FILL: u8 = 0xA5;
 const SEED: u64 = 0x7072_696E;
 /// Random terms, each printed in both layouts.
 const RANDOM_TERMS: usize = 100_000;
@@ -29,76 +26,13 @@ const TERMS_OF_A_BOOK: usize = 8;
 const RANDOM_NODES: usize = 40_000;
 /// Random calls on bad books, or for terms that are not there.
 const REFUSED_CALLS: usize = 40_000;
-/// The usual sizes of random books, and a rare one.
-const SIZES: [usize; 5] = [1, 2, 4, 8, 16];
-const LARGE: usize = 80;
 const INDENTS: [u64; 5] = [0, 1, 7, 1 << 32, u64::MAX];
 const TAGS: [u64; 4] = [0, 7, 1 << 32, u64::MAX];
 /// Flags for a line for each part.
 const FLAGS: [u32; 5] = [1, 7, 256, 1 << 31, u32::MAX];
 const ONE_LINE: u32 = 0;
-/// A text longer than this gets only buffers that are too short.
-const LONGEST: u64 = 1 << 24;
-const SHORT_ROOMS: [usize; 3] = [0, 1, 100];
-/// How much longer than its text a buffer is, at most.
-const LONGER: usize = 9;
 /// Operator codes whose low bytes are those of good ones, and the last.
 const FAR_CODES: [u32; 4] = [1 << 8 | 1, 1 << 16 | 2, 1 << 31 | 3, u32::MAX];
-/// The numbers of the refusals that a call on a book has.
-const ON_A_BOOK: [u32; 9] = [0, 1, 2, 3, 4, 5, 6, 7, 10];
-
-/// What a call leaves.
-#[derive(PartialEq)]
-struct Left {
-    answer: Printed,
-    text: Fenced,
-    scratch: Vec<u8>,
-}
-
-/// Runs a call with a text buffer of `room` bytes and bytes behind it.
-fn left(room: usize, scratch: usize, call: impl FnOnce(&mut [u8], &mut [u8]) -> Printed) -> Left {
-    let mut text = Fenced::new(room);
-    let mut scratch = vec![FILL; scratch];
-    let answer = call(&mut scratch, text.room());
-    Left {
-        answer,
-        text,
-        scratch,
-    }
-}
-
-/// The reference's answer, as the library tells it.
-fn told(answer: Result<usize, u32>) -> Printed {
-    match answer {
-        Ok(length) => Printed {
-            refusal: 0,
-            length: length as u64,
-        },
-        Err(refusal) => Printed { refusal, length: 0 },
-    }
-}
-
-/// Compares what both leave; `what` says which call it was.
-fn compare(
-    met: &mut Met,
-    theirs: Left,
-    ours: Left,
-    what: impl FnOnce() -> String,
-) -> Result<(), String> {
-    met.add(theirs.answer.refusal);
-    if ours.answer != theirs.answer {
-        let [ours, theirs] = [ours.answer, theirs.answer];
-        return Err(format!("{ours:?}, expected {theirs:?}, of {}", what()));
-    }
-    if ours != theirs {
-        return Err(format!(
-            "other bytes after {:?}, of {}",
-            ours.answer,
-            what()
-        ));
-    }
-    Ok(())
-}
 
 /// A call of print but for its buffers.
 #[derive(Clone, Copy, Debug)]
@@ -146,16 +80,9 @@ impl Print<'_> {
 
     /// With buffers exactly long enough, one byte less, empty and longer.
     fn compare_around(self, length: u64, longer: usize, met: &mut Met) -> Result<(), String> {
-        let fitting = length as usize;
-        let around = [fitting, fitting - 1, 0, fitting + 1 + longer];
-        let rooms = if length > LONGEST {
-            &SHORT_ROOMS[..]
-        } else {
-            &around
-        };
-        rooms
-            .iter()
-            .try_for_each(|room| self.compare(*room, SCRATCH_SIZE, met))
+        rooms_around(length, longer)
+            .into_iter()
+            .try_for_each(|room| self.compare(room, SCRATCH_SIZE, met))
     }
 }
 
@@ -176,42 +103,6 @@ fn compare_trace(
     compare(met, theirs, ours, || {
         format!("trace of node {node}, buffer {room}, scratch {scratch}, of {book:?}")
     })
-}
-
-/// A scratch that is hardly ever too short.
-fn scratch_length(random: &mut Random) -> usize {
-    if random.one_in(HARDLY_EVER) {
-        SCRATCH_SIZE - 1
-    } else {
-        SCRATCH_SIZE + random.below(LONGER)
-    }
-}
-
-/// A book that is damaged at times.
-fn any_book(random: &mut Random) -> Vec<u8> {
-    let size = random.pick(&SIZES);
-    let counts = Counts::random(random, size);
-    let m = random_book(random, counts);
-    if random.one_in(OFTEN) {
-        m.book()
-    } else {
-        damaged(random, &m)
-    }
-}
-
-/// A term of a book, more often one of the last, which have others inside.
-fn any_term(random: &mut Random, count: usize) -> u32 {
-    let below_last = random.below(count) * random.below(count) / count;
-    (count - 1 - below_last) as u32
-}
-
-/// A number within a count, the first ones behind it, or a huge one.
-fn any_number(random: &mut Random, count: usize) -> u32 {
-    if random.one_in(RARELY) {
-        random.pick(&[count as u32, count as u32 + 1, 1 << 31, u32::MAX])
-    } else {
-        random.up_to(count) as u32
-    }
 }
 
 /// Every term of a book, in every layout.
@@ -294,13 +185,7 @@ fn print_groups(tally: &mut Tally) {
         let mut printed = 0;
         let mut bytes = 0;
         while printed < random_terms {
-            let size = if random.one_in(HARDLY_EVER) {
-                LARGE
-            } else {
-                random.pick(&SIZES)
-            };
-            let counts = Counts::random(&mut random, size);
-            let book = random_book(&mut random, counts).book();
+            let book = good_book(&mut random);
             let program = check(&book).map_err(|refusal| format!("refused {refusal}"))?;
             for _ in 0..TERMS_OF_A_BOOK.min(program.terms.len()) {
                 let term = any_term(&mut random, program.terms.len());

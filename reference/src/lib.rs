@@ -11,6 +11,7 @@ pub mod damage;
 pub mod engine;
 pub mod image;
 pub mod levels;
+pub mod listing;
 pub mod lower;
 pub mod maker;
 pub mod operators;
@@ -30,6 +31,7 @@ pub mod walk;
 
 pub use book_test::book_test;
 pub use image::fresh_image;
+pub use listing::listing;
 pub use operators::operator;
 pub use printing::{print, trace};
 pub use script::script;

@@ -53,7 +53,8 @@ fn literal_to_sexpr<'b>(program: &Program<'b>, s: &[u8], typ: SType, tag: u64) -
     }
 }
 
-fn operator_name<'b>(program: &Program<'b>, op: &ROperator<'b>) -> &'b [u8] {
+/// The Dafny `ToString` of an operator.
+pub(crate) fn operator_name<'b>(program: &Program<'b>, op: &ROperator<'b>) -> &'b [u8] {
     match op {
         ROperator::BuiltInOperator(name) => name,
         ROperator::UserDefinedFunction(function) => program.functions[*function].name,

@@ -115,7 +115,7 @@ impl SType {
         })
     }
 
-    /// As it stands in a literal's name.
+    /// The Dafny `ToString`: as it stands in a literal's name and in a listing.
     pub fn text<'b>(self, program: &Program<'b>) -> &'b [u8] {
         match self {
             SType::SBool => Self::BOOL_IN_LITERAL.as_bytes(),

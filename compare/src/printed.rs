@@ -1,0 +1,83 @@
+//! What a printing call leaves, of the library and of the reference: the
+//! answer, every byte of the text, every byte behind it, and every scratch
+//! byte.
+
+use crate::buffers::Fenced;
+use crate::library::Printed;
+use crate::tally::Met;
+
+/// What a scratch holds before a call.
+const FILL: u8 = 0xA5;
+/// A text longer than this gets only buffers that are too short.
+pub const LONGEST: u64 = 1 << 24;
+pub const SHORT_ROOMS: [usize; 3] = [0, 1, 100];
+/// How much longer than its text a buffer is, at most.
+pub const LONGER: usize = 9;
+/// The numbers of the refusals that a call on a book has.
+pub const ON_A_BOOK: [u32; 9] = [0, 1, 2, 3, 4, 5, 6, 7, 10];
+
+/// What a call leaves.
+#[derive(PartialEq)]
+pub struct Left {
+    answer: Printed,
+    text: Fenced,
+    scratch: Vec<u8>,
+}
+
+/// Runs a call with a text buffer of `room` bytes and bytes behind it.
+pub fn left(
+    room: usize,
+    scratch: usize,
+    call: impl FnOnce(&mut [u8], &mut [u8]) -> Printed,
+) -> Left {
+    let mut text = Fenced::new(room);
+    let mut scratch = vec![FILL; scratch];
+    let answer = call(&mut scratch, text.room());
+    Left {
+        answer,
+        text,
+        scratch,
+    }
+}
+
+/// The reference's answer, as the library tells it.
+pub fn told(answer: Result<usize, u32>) -> Printed {
+    match answer {
+        Ok(length) => Printed {
+            refusal: 0,
+            length: length as u64,
+        },
+        Err(refusal) => Printed { refusal, length: 0 },
+    }
+}
+
+/// Compares what both leave; `what` says which call it was.
+pub fn compare(
+    met: &mut Met,
+    theirs: Left,
+    ours: Left,
+    what: impl FnOnce() -> String,
+) -> Result<(), String> {
+    met.add(theirs.answer.refusal);
+    if ours.answer != theirs.answer {
+        let [ours, theirs] = [ours.answer, theirs.answer];
+        return Err(format!("{ours:?}, expected {theirs:?}, of {}", what()));
+    }
+    if ours != theirs {
+        return Err(format!(
+            "other bytes after {:?}, of {}",
+            ours.answer,
+            what()
+        ));
+    }
+    Ok(())
+}
+
+/// Buffers exactly long enough for a text, one byte less, empty and longer.
+pub fn rooms_around(length: u64, longer: usize) -> Vec<usize> {
+    if length > LONGEST {
+        return SHORT_ROOMS.to_vec();
+    }
+    let fitting = length as usize;
+    vec![fitting, fitting - 1, 0, fitting + 1 + longer]
+}
