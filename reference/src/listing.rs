@@ -123,11 +123,11 @@ fn comma(parts: &[usize], sink: &mut Sink, mut part_to_string: impl FnMut(usize,
 
 /// The premises from the root, which has none, down to the context.
 fn print(program: &Program, context: usize, sink: &mut Sink) {
-    let Some(contextx) = program.node(context) else {
+    let Some(node) = program.node(context) else {
         return;
     };
-    print(program, contextx.parent, sink);
-    print_line(program, contextx.expr, sink);
+    print(program, node.parent, sink);
+    print_line(program, node.expr, sink);
 }
 
 fn print_line(program: &Program, expr: usize, sink: &mut Sink) {

@@ -1,6 +1,5 @@
 -- Variables, literals, numbers and words.
 use Prim.Native.Nat.{ℕ, zero, suc, _+_, _*_, _^_, _<_}
-use native.Mathlib.Omega.{arith}
 use mathlib.Core.Path.{_≡_, refl, _∙_}
 use mathlib.Core.List.{List, _++_}
 use borrow.Author.Tests.{ne-eqb}

@@ -19,7 +19,7 @@ use Rattle.book.specs.Book.{Book, types, terms, size, field, nameText}
 use Rattle.book.specs.RExpr.{Literal}
 use Rattle.book.specs.Decode.{Kind, boolean, integer, customLiteral, id, builtIn, application, ifThenElse, letExpr, quantifierExpr, kindOf, typeOf, literalOf, literalBy, literalAt, program}
 use Rattle.book.proofs.Terms.{literals-length, literal-at}
-use Rattle.book_test.specs.Promise.{Promise, GoodKind, GoodLiteral}
+use Rattle.book_test.specs.Promise.{GoodLiteral}
 use Rattle.solver_expr.specs.SolverExpr.{typeToString}
 use Rattle.solver_expr.specs.Lowering.{isTag, literalName}
 use Rattle.smt_engines.specs.Command.{DeclareLiteral, script}

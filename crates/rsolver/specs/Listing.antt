@@ -56,7 +56,7 @@ unfoldable mutual
   patternsToString []ᵖ = []
   patternsToString (p ∷ᵖ ps) = ascii " pattern " ++ comma (rexprStrings p) COMMA ++ patternsToString ps
 
--- the two lists above, in the block's own words: a block's functions match on a constructor
+-- inside the block it is written out: a function of a block has to match on a constructor
 unfoldable pub rexprListToString : RExprs → Text
 rexprListToString es = comma (rexprStrings es) COMMA
 

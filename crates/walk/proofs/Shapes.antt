@@ -1,7 +1,7 @@
 -- What DeclareNewSymbols does to a term of each kind.
-use Prim.Native.Nat.{ℕ, zero, suc, _+_, _<_}
+use Prim.Native.Nat.{ℕ, suc, _+_, _<_}
 use native.Mathlib.Omega.{arith}
-use mathlib.Core.Path.{_≡_, refl, _∙_}
+use mathlib.Core.Path.{_≡_, refl}
 use mathlib.Core.List.{List, [], _∷_, _++_}
 use Rattle.book.specs.Book.{Book, constants, terms, lists, patterns, size, field, entries}
 use Rattle.book.specs.RExpr.{RExpr, RExprs}
