@@ -44,7 +44,7 @@ enum leskofar_refusal {
 
 /*
  * Bytes of stack that are enough for any call without a session, beside what the caller and its thread take. To print the deepest terms
- * that a book can hold takes nearly all of it, to list them half (docs/PERFORMANCE.md); every other call needs a few thousand bytes.
+ * that a book can hold takes nearly all of it, to list them less (docs/PERFORMANCE.md); every other call needs a few thousand bytes.
  */
 #define LESKOFAR_STACK (200 * 1024)
 
