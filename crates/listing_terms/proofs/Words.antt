@@ -2,16 +2,18 @@
 use Prim.Native.Nat.{ℕ, zero, suc, _+_, _*_, _^_, _<_}
 use mathlib.Core.Path.{_≡_, refl, _∙_}
 use mathlib.Core.List.{List, _++_}
+use mathlib.Core.Bool.{not}
+use lib.Dec.{eqb}
 use borrow.Author.Tests.{ne-eqb}
-use Rattle.basics.specs.Text.{Text, ascii}
+use Rattle.basics.specs.Text.{Text, ascii, if_then_else_}
 use Rattle.basics.specs.Basics.{int2String, int64}
 use Rattle.basics.specs.Write.{MOST, WroteAt}
 use Rattle.basics.proofs.Places.{at-none}
 use Rattle.book.specs.Book.{Book, constants, functions, terms, field, nameText}
 use Rattle.book.specs.Decode.{typeOf, constantOf, literalOf}
 use Rattle.solver_expr.specs.SolverExpr.{typeToString}
-use Rattle.rsolver.specs.Listing.{COMMA, boundVarToString, customLiteralToString, quantifierOpening}
-use Rattle.listing_terms.specs.Texts.{lead, booleanText, integerText, operatorText, universal}
+use Rattle.rsolver.specs.Listing.{COMMA, boundVarToString, customLiteralToString}
+use Rattle.listing_terms.specs.Texts.{lead, integerText, operatorText}
 
 module _ (b : Book) where
   -- v: type
@@ -26,13 +28,12 @@ module _ (b : Book) where
   unfolding customLiteralToString literalOf
   literal-text t es ek = rw (es, ek)
 
-  pub is-false : (t : ℕ) {v : ℕ} → v ≡ field b terms t 1 → v ≡ 0 → ascii "false" ≡ booleanText b t
-  unfolding booleanText
-  is-false t {v} e z = rw (← e, z)
+  -- field 1 as a flag: a Boolean's value, and whether a quantifier is universal
+  pub flag-unset : (t : ℕ) (x y : Text) {v : ℕ} → v ≡ field b terms t 1 → v ≡ 0 → y ≡ (if not (eqb (field b terms t 1) 0) then x else y)
+  flag-unset t x y {v} e z = rw (← e, z)
 
-  pub is-true : (t : ℕ) {v : ℕ} → v ≡ field b terms t 1 → (v ≡ 0 → ⊥) → ascii "true" ≡ booleanText b t
-  unfolding booleanText
-  is-true t {v} e z = rw (← e, ne-eqb v 0 z)
+  pub flag-set : (t : ℕ) (x y : Text) {v : ℕ} → v ≡ field b terms t 1 → (v ≡ 0 → ⊥) → x ≡ (if not (eqb (field b terms t 1) 0) then x else y)
+  flag-set t x y {v} e z = rw (← e, ne-eqb v 0 z)
 
   pub built-in-name : (t : ℕ) {k : ℕ} {s : Text} → k ≡ field b terms t 0 → k ≡ 4 → s ≡ nameText b (field b terms t 1) → s ≡ operatorText b t
   unfolding operatorText
@@ -41,14 +42,6 @@ module _ (b : Book) where
   pub function-name : (t : ℕ) {k f : ℕ} {s : Text} → k ≡ field b terms t 0 → (k ≡ 4 → ⊥) → f ≡ field b terms t 1 → s ≡ nameText b (field b functions f 0) → s ≡ operatorText b t
   unfolding operatorText
   function-name t {k} ek e ef h = h ∙ rw (← ek, ne-eqb k 4 e, ← ef)
-
-  pub is-exists : (t : ℕ) {v : ℕ} → v ≡ field b terms t 1 → v ≡ 0 → ascii "(exists " ≡ quantifierOpening (universal b t)
-  unfolding quantifierOpening universal
-  is-exists t {v} e z = rw (← e, z)
-
-  pub is-forall : (t : ℕ) {v : ℕ} → v ≡ field b terms t 1 → (v ≡ 0 → ⊥) → ascii "(forall " ≡ quantifierOpening (universal b t)
-  unfolding quantifierOpening universal
-  is-forall t {v} e z = rw (← e, ne-eqb v 0 z)
 
   pub integer-text : (t : ℕ) {bits : ℕ} → bits ≡ field b terms t 1 + 2 ^ 32 * field b terms t 2 → int2String (int64 bits) ≡ integerText b t
   unfolding integerText
