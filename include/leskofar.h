@@ -48,7 +48,7 @@ enum leskofar_refusal {
  */
 #define LESKOFAR_STACK (200 * 1024)
 
-/* The same for a call on a session, which walks the terms and axioms that it declares. */
+/* The same for a call on a session, which walks the terms and axioms that it declares, and for leskofar_nodes_test. */
 #define LESKOFAR_SESSION_STACK (2048 * 1024)
 
 /*
@@ -149,6 +149,32 @@ leskofar_answer leskofar_reply(const uint8_t *book, size_t book_len, uint8_t *sc
 leskofar_answer leskofar_model(const uint8_t *book, size_t book_len, uint8_t *scratch, size_t scratch_len, uint8_t *image,
                                size_t image_len, const uint8_t *reply, size_t reply_len, uint32_t has_model, const uint8_t *model,
                                size_t model_len, uint8_t *text, size_t text_len, uint8_t *reason, size_t reason_len);
+
+/* The most numbers that a list of nodes may have. */
+#define LESKOFAR_NODES_MOST 512
+
+/* What the test of a list of nodes leads to. */
+enum leskofar_nodes_result {
+    LESKOFAR_NODES_PASS = 0, /* a fresh session could move to each of them */
+    LESKOFAR_NODE_FAILS = 1  /* the one at `position` is the first that would be refused 9 */
+};
+
+/* What it answers. Where it is refused, all is 0 but the refusal. */
+typedef struct {
+    uint32_t refusal;
+    uint32_t result;   /* of enum leskofar_nodes_result */
+    uint64_t position; /* counted from 0; 0 where none fails */
+} leskofar_nodes_tested;
+
+/*
+ * Tells beforehand whether a session could move to each node of a list, 0 for the root: refusals 1 to 6, 3 for more than
+ * LESKOFAR_NODES_MOST numbers, and 7 for a node that is not in the book, wherever it stands in the list; the first that holds in this
+ * order. A number has four bytes, little-endian; bytes behind the last whole one count as a number more, which is no node. A node may
+ * stand in the list twice; an empty list passes. Of goals nothing is said: a question at such a node may still be refused 9 for its
+ * goal.
+ */
+leskofar_nodes_tested leskofar_nodes_test(const uint8_t *book, size_t book_len, uint8_t *scratch, size_t scratch_len,
+                                          const uint8_t *nodes, size_t nodes_len);
 
 #ifdef __cplusplus
 }
