@@ -2,12 +2,14 @@
 use Prim.Native.Nat.{ℕ}
 use mathlib.Core.Bool.{Bool, not}
 use mathlib.Core.List.{List}
+use mathlib.Core.Option.{Option, none, some}
 use lib.Dec.{eqb}
 use lib.ListN.{length}
 use Rattle.basics.specs.Text.{if_then_else_}
 use Rattle.basics.specs.Outcome.{Outcome, refused, accepted}
 use Rattle.solvers.specs.Left.{Values, written, proved, unproved}
 use Rattle.solvers.specs.Image.{imageSize}
+use Rattle.leskofar.specs.declared.node_calls.NodesAnswered.{NodesAnswered}
 use Rattle.leskofar.specs.declared.print_calls.Told.{Told}
 use Rattle.leskofar.specs.declared.session_calls.Answered.{Answered}
 
@@ -20,6 +22,12 @@ refusalOf (accepted a) = 0
 unfoldable pub told : Outcome ℕ → Told
 told (refused n) = record { refusal = n; length = 0 }
 told (accepted n) = record { refusal = 0; length = n }
+
+-- the same of the test of a list of nodes, with what it leads to and the position, counted from 0, of the first that fails
+unfoldable pub nodesAnswered : Outcome (Option ℕ) → NodesAnswered
+nodesAnswered (refused n) = record { refusal = n; result = 0; position = 0 }
+nodesAnswered (accepted none) = record { refusal = 0; result = 0; position = 0 }
+nodesAnswered (accepted (some position)) = record { refusal = 0; result = 1; position = position }
 
 -- a flag is any number, 0 or not 0
 abbrev pub flag : ℕ → Bool

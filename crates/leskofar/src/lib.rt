@@ -5,9 +5,12 @@ ghost use Rattle.leskofar.specs.Exports.{refusalOf};
 use book_test::Tested;
 use refusal_numbers::number;
 
+mod node_calls;
 mod print_calls;
 mod session_calls;
 
+pub use node_calls::NodesAnswered;
+pub use node_calls::leskofar_nodes_test;
 pub use print_calls::Told;
 pub use print_calls::leskofar_listing;
 pub use print_calls::leskofar_operator;

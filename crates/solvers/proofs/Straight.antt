@@ -27,11 +27,11 @@ use Rattle.solvers.specs.StackRule.{Same, Enough}
 use Rattle.solvers.proofs.Questions.{Fits, denial-missing, is-session, arrives, asked-at}
 use Rattle.solvers.proofs.Holds.{rootPresent, G, T, fits-start, holds, reads}
 
-pass : {A : Type 0} (k : ℕ) (x : Bool) (rest : Outcome A) → x ≡ false → refuse k x >> rest ≡ rest
+pub pass : {A : Type 0} (k : ℕ) (x : Bool) (rest : Outcome A) → x ≡ false → refuse k x >> rest ≡ rest
 unfolding refuse _>>_
 pass k x rest e = rw e
 
-pass-all : {A : Type 0} (o : Outcome (Unit {0})) (rest : Outcome A) → o ≡ accepted tt → o >> rest ≡ rest
+pub pass-all : {A : Type 0} (o : Outcome (Unit {0})) (rest : Outcome A) → o ≡ accepted tt → o >> rest ≡ rest
 unfolding _>>_
 pass-all o rest e = rw e
 
@@ -43,14 +43,14 @@ unfoldable pub roomFor : Book → Call → ℕ
 roomFor b c = length (script (said b rootPresent c))
 
 module _ (b : Book) (ok : bookTest b ≡ accepted tt) where
-  ready-ok : {room : ℕ} {h : Host} → Enough room h → ready (length (h .scratch)) b ≡ accepted tt
+  pub ready-ok : {room : ℕ} {h : Host} → Enough room h → ready (length (h .scratch)) b ≡ accepted tt
   unfolding ready
   ready-ok {h = h} k = pass 1 (ltb (length (h .scratch)) scratchLeast) (bookTest b) (le-ltb (length (h .scratch)) scratchLeast (k .scratch)) ∙ ok
 
-  valid-start : isSession (program b) (sessionAt b rootPresent) ≡ true
+  pub valid-start : isSession (program b) (sessionAt b rootPresent) ≡ true
   valid-start = is-session b (G b ok) (T b ok) rootPresent (fits-start b ok)
 
-  owes-start : not (owes (sessionAt b rootPresent .owed) Nothing) ≡ false
+  pub owes-start : not (owes (sessionAt b rootPresent .owed) Nothing) ≡ false
   unfolding owes sessionAt rootPresent present
   owes-start = refl
 
@@ -63,7 +63,7 @@ module _ (b : Book) (ok : bookTest b ≡ accepted tt) where
   unfolding fitting
   fits-room h y e j = pass 10 _ (accepted y) (no-room h y e j)
 
-  move-yes : (h : Host) (n : ℕ) → Fits b (present n 0 Nothing) → Enough (roomFor b (moveTo h n)) h
+  pub move-yes : (h : Host) (n : ℕ) → Fits b (present n 0 Nothing) → Enough (roomFor b (moveTo h n)) h
       → Takes b (moveTo h n) (move (program b) (sessionAt b rootPresent) n)
   unfolding call moveCall present
   move-yes h n f k =

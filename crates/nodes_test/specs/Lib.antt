@@ -1,0 +1,3 @@
+pub mod NodesTest
+pub mod Listed
+pub mod Reach
