@@ -35,6 +35,8 @@ use Rattle.solvers.specs.Left.{answerValue, valuesBy, values, reason, sessionAf
 use Rattle.solvers.specs.Image.{bytes4, owedNumber, owedOf, writeImage, noSession, isImage, readImage, imageAfter, calledOnImage}
 use Rattle.solvers.specs.Rule.{standing, settle, nodeCommands, levelsOf, goalState, goalCommands, denialCommands, goalLevels, levelsFor, entering, moveCommands, questionCommands, present, nextReply, next, nodeLevels, mustLive, sessionAt, replyCommands, said, after, runFrom, start, run, straightTo, straight}
 use Rattle.solvers.specs.ByBook.{moveByBook, askByBook, callByBook}
+use Rattle.number_lists.specs.Numbers.{numbers}
+use Rattle.nodes_test.specs.NodesTest.{couldMove, firstFailing, allInside, nodesIn, nodesTested, nodesTestedValue, nodesTestCall}
 use Rattle.solvers.specs.Bodies.{onReply, doCall, doIfAccepted, doFrom, doAll}
 
 -- the book, and its test
@@ -62,6 +64,11 @@ unfoldable pub calling : Unit {0}
 unfolding textOf freshSession resume moved asked move ask closed isUnsat replied giveReply giveModel owes goalFits isSession reasonOf fitting moveCall askCall replyCall modelCall hostOf call answerValue valuesBy values reason sessionAfter left called bytes4 owedNumber owedOf writeImage noSession isImage readImage imageAfter calledOnImage shared standing settle nodeCommands levelsOf goalState goalCommands denialCommands goalLevels levelsFor entering moveCommands questionCommands present nextReply next nodeLevels mustLive sessionAt replyCommands said after runFrom start run straightTo straight moveByBook askByBook callByBook onReply doCall doIfAccepted doFrom doAll glue cut lines kind join dropped hearKind hear hearAll read
 calling = tt
 
+-- the test of a list of nodes
+unfoldable pub reaching : Unit {0}
+unfolding numbers couldMove firstFailing allInside nodesIn nodesTested nodesTestedValue nodesTestCall
+reaching = tt
+
 unfoldable pub everything : Unit {0}
-unfolding testing printing sending listing calling
+unfolding testing printing sending listing calling reaching
 everything = tt

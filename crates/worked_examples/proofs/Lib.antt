@@ -9,4 +9,5 @@ pub mod Refusals
 pub mod Depths
 pub mod Lists
 pub mod Sessions
+pub mod Nodes
 pub mod Scripts
