@@ -39,6 +39,7 @@ module _ (p : Program) where
 
 -- the session stands at a node of the list, or at the root, and has met nothing that is missing
 pub record Moving (b : Book) (ns : List ℕ) (i at : ℕ) (ls : List ℕ) : Type 0 where
+  pub few : i ≤ length ns
   pub here : at ≤ size b contexts
   pub levels : ls ≡ stateAt b at .levels
   pub clear : stateAt b at .missing ≡ false
@@ -47,7 +48,7 @@ pub record Moving (b : Book) (ns : List ℕ) (i at : ℕ) (ls : List ℕ) : Type
 module _ (b : Book) (ns : List ℕ) where
   pub moving-start : {ls : List ℕ} → ls ≡ noLevels → Moving b ns 0 0 ls
   unfolding standing fresh path pathUp
-  moving-start e = record { here = omega arith; levels = e; clear = refl; passed = λ k l. absurd (omega arith) }
+  moving-start e = record { few = omega arith; here = omega arith; levels = e; clear = refl; passed = λ k l. absurd (omega arith) }
 
   pub moving-on : Promise b → {i at new : ℕ} {ls : List ℕ} → Moving b ns i at ls → new ≤ size b contexts → Standing b at new ls
   moving-on P m l = record { promise = P; from = m .here; to = l; levels = m .levels; clear = m .clear }
@@ -56,11 +57,11 @@ module _ (b : Book) (ns : List ℕ) where
   moving-wide P {at = at} m = sym (ap length (m .levels) ∙ levels-length (program b) (good b P) (path (program b) at))
 
   module _ {i at new : ℕ} {ls ls' : List ℕ} {r : Progress} (m : Moving b ns i at ls) (is : new ≡ getD ns i 0) (s : IsState (stateAt b new) ls' r) where
-    pub moving-more : r .missing ≡ false → new ≤ size b contexts → Moving b ns (i + 1) new ls'
+    pub moving-more : r .missing ≡ false → i < length ns → new ≤ size b contexts → Moving b ns (i + 1) new ls'
     unfolding couldMove
-    moving-more h l =
+    moving-more h f l =
         let clear : stateAt b new .missing ≡ false = sym (s .missing) ∙ h in
-        record { here = l; levels = s .levels; clear = clear; passed = λ k j. at-place clear k j (decLt k i) }
+        record { few = omega arith; here = l; levels = s .levels; clear = clear; passed = λ k j. at-place clear k j (decLt k i) }
       where
         at-place : stateAt b new .missing ≡ false → (k : ℕ) → k < i + 1 → Dec (k < i) → couldMove (program b) (getD ns k 0) ≡ true
         at-place clear k j (yes e) = m .passed k e
@@ -70,6 +71,6 @@ module _ (b : Book) (ns : List ℕ) where
     unfolding couldMove nodesTestedValue
     moving-stop h l = rw (first-is (program b) ns i l (m .passed) (rw (← is, sym (s .missing) ∙ h)))
 
-  pub moving-done : {i at : ℕ} {ls : List ℕ} → Moving b ns i at ls → i ≡ length ns → nodesTestedValue Pass ≡ accepted (firstFailing (program b) ns)
+  pub moving-done : {i at : ℕ} {ls : List ℕ} → Moving b ns i at ls → length ns ≤ i → nodesTestedValue Pass ≡ accepted (firstFailing (program b) ns)
   unfolding nodesTestedValue
-  moving-done m e = rw (none-is (program b) ns (rw e at (m .passed)))
+  moving-done {i} m l = let e : i ≡ length ns = omega (arith, m .few) in rw (none-is (program b) ns (rw e at (m .passed)))
