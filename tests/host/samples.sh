@@ -126,7 +126,7 @@ printf '(constant x Int)\n(function f (Int) Int :explained-by (lost))\n(axiom lo
 "$TOOLS/plan" book "$work/lost.plan" -o "$work/lost.book" --goals >"$work/lost.goals" || exit 1
 # shellcheck disable=SC2046
 run prove "$work/lost.book" $(cut -d ' ' -f 1,2 "$work/lost.goals") --show-proof-obligations
-expect 'an axiom without a term' 2 'refused 9: a function that the question needs is explained by an axiom without a term'
+expect 'an axiom without a term' 2 'refused 9: a function that is needed there is explained by an axiom without a term'
 expect_results 'an axiom without a term' 'refused Proved'
 expect_listings 'an axiom without a term' tests/host/listings/lost.txt
 
