@@ -39,6 +39,16 @@ for wanted in 0 1 2; do
         fail 'nodes of made plans' "status $wanted is too seldom"
 done
 
+# Names and sorts are left to the others: `nodes` tells what a session meets.
+. tests/host/raw_books.sh
+raw_book 'a book with a wrong sort' '(constant x Int)
+(constant |a b| Int :name "a b")
+(node n root (<= x))'
+run check "$raw"
+expect 'a book with a wrong name and sort' 2
+run nodes "$raw"
+expect_said 'its nodes' 0 '1 node can be reached'
+
 # A byte changed anywhere: refused with the number and words of `check`, or not at all.
 length=$(wc -c <"$work/nodes/1.book")
 damaged=$work/nodes/damaged.book
