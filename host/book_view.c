@@ -1,9 +1,11 @@
 #include "book_view.h"
 
+#include "numbers.h"
+
 #include <string.h>
 
 /* The table of contents has a pair for each section: where it begins, and how many records it has. */
-enum { NUMBER_SIZE = 4, PAIR_SIZE = 2 * NUMBER_SIZE };
+enum { PAIR_SIZE = 2 * NUMBER_SIZE };
 
 static const uint32_t RECORD_SIZES[] = {
     [SECTION_LETTERS] = 1,
@@ -26,10 +28,6 @@ struct letters letters_of(const char *text) {
 
 bool letters_are_same(struct letters one, struct letters other) {
     return one.length == other.length && memcmp(one.at, other.at, one.length) == 0;
-}
-
-static uint32_t number_at(const uint8_t *bytes) {
-    return (uint32_t)bytes[0] | (uint32_t)bytes[1] << 8 | (uint32_t)bytes[2] << 16 | (uint32_t)bytes[3] << 24;
 }
 
 static const uint8_t *record_at(const struct bytes *book, enum section section, uint32_t record) {

@@ -10,6 +10,7 @@ enum status command_check(int count, char **arguments);
 enum status command_print(int count, char **arguments);
 enum status command_trace(int count, char **arguments);
 enum status command_listing(int count, char **arguments);
+enum status command_nodes(int count, char **arguments);
 enum status command_prove(int count, char **arguments);
 
 /* Helpers of the commands: each is false after a complaint. */

@@ -7,12 +7,13 @@ const char HELP_PROGRAM[] =
     "  print BOOK TERM                       print a term as the solver gets it\n"
     "  trace BOOK NODE                       print the traces on the way to a node\n"
     "  listing BOOK NODE TERM                print a node's premises and a goal\n"
+    "  nodes BOOK [NODE ..]                  test whether nodes can be reached\n"
     "  prove BOOK NODE TERM [NODE TERM ..]   ask a solver whether terms follow at nodes\n"
     "\n"
     "leskofar COMMAND --help says more of each.\n"
     "\n"
-    "Exit status: 0 done, and all proved; 1 something is not proved; 2 refused, or\n"
-    "wrong usage; 3 the solver failed. Of several the largest is given.\n";
+    "Exit status: 0 done, and all proved or reached; 1 something is not; 2 refused,\n"
+    "or wrong usage; 3 the solver failed. Of several the largest is given.\n";
 
 const char HELP_CHECK[] =
     "usage: leskofar check BOOK [--raw-names] [--raw-sorts]\n"
@@ -58,6 +59,23 @@ const char HELP_LISTING[] =
     "listed.\n"
     "\n"
     "Exit status: 0 printed; 2 refused, or wrong usage.\n";
+
+const char HELP_NODES[] =
+    "usage: leskofar nodes BOOK [NODE ..]\n"
+    "\n"
+    "Tells beforehand whether each node NODE can be reached: whether a question there\n"
+    "would not be refused 9 for an axiom without a term that the premises need. Where\n"
+    "no node is named, all nodes of the book are tested, from node 1 on. At most 512\n"
+    "may be named; one that is named twice counts twice. Node 0 is the root, which\n"
+    "can always be reached.\n"
+    "\n"
+    "The first node that would be refused is told, with its position in the list, of\n"
+    "which the first is 0, and with its trace. Of goals nothing is said: a question\n"
+    "may still be refused 9 for its goal. No solver is started, and neither names nor\n"
+    "sorts are checked.\n"
+    "\n"
+    "Exit status: 0 all can be reached; 1 one would be refused; 2 refused, or wrong\n"
+    "usage.\n";
 
 const char HELP_PROVE[] =
     "usage: leskofar prove BOOK NODE TERM [NODE TERM ..] [OPTIONS]\n"

@@ -7,6 +7,7 @@ extern const char HELP_CHECK[];
 extern const char HELP_PRINT[];
 extern const char HELP_TRACE[];
 extern const char HELP_LISTING[];
+extern const char HELP_NODES[];
 extern const char HELP_PROVE[];
 
 #endif

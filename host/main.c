@@ -20,6 +20,7 @@ static const struct command COMMANDS[] = {{"check", command_check, HELP_CHECK},
                                           {"print", command_print, HELP_PRINT},
                                           {"trace", command_trace, HELP_TRACE},
                                           {"listing", command_listing, HELP_LISTING},
+                                          {"nodes", command_nodes, HELP_NODES},
                                           {"prove", command_prove, HELP_PROVE}};
 enum { COMMAND_COUNT = sizeof COMMANDS / sizeof COMMANDS[0] };
 

@@ -23,7 +23,7 @@ const char *refusal_meaning(uint32_t refusal) {
     case LESKOFAR_REPLY_IS_UNSAT:
         return "a model is given for the reply unsat";
     case LESKOFAR_MISSING_AXIOM:
-        return "a function that the question needs is explained by an axiom without a term";
+        return "a function that is needed there is explained by an axiom without a term";
     case LESKOFAR_BUFFER_TOO_SHORT:
         return "the text is longer than its buffer";
     case LESKOFAR_NO_OPERATOR:

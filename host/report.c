@@ -72,9 +72,9 @@ static enum colour colour_of(enum status status) {
     return status == STATUS_DONE ? GREEN : status == STATUS_NOT_PROVED ? YELLOW : RED;
 }
 
-static void show_trace(const struct report *report, struct writer *writer, const struct question *question) {
-    if (writer_trace(writer, question->node) == LESKOFAR_ACCEPTED && writer->text.length > 0) {
-        show_block(&report->show, "trace", writer->text.at, writer->text.length);
+void report_trace(const struct show *show, struct writer *writer, uint32_t node) {
+    if (writer_trace(writer, node) == LESKOFAR_ACCEPTED && writer->text.length > 0) {
+        show_block(show, "trace", writer->text.at, writer->text.length);
     }
 }
 
@@ -88,7 +88,7 @@ static void show_reason(const struct report *report, struct prover *prover, cons
     if (result->verdict != VERDICT_FAILED && !result->has_model) {
         show_block(&report->show, "no model came", prover->failure.at, prover->failure.length);
     }
-    show_trace(report, writer, question);
+    report_trace(&report->show, writer, question->node);
 }
 
 /* What must not be missed is told even where all else is quiet. */

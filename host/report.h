@@ -14,6 +14,9 @@ struct report {
     enum status status;     /* of all questions so far */
 };
 
+/* The traces on the way to a node, if there are any. */
+void report_trace(const struct show *show, struct writer *writer, uint32_t node);
+
 /* A question that is about to be asked. */
 void report_question(const struct report *report, struct writer *writer, const struct question *question);
 

@@ -70,6 +70,13 @@ uint32_t writer_listing(struct writer *writer, uint32_t node, uint32_t goal) {
     return printed(writer, answer);
 }
 
+uint32_t writer_nodes_test(struct writer *writer, const struct bytes *nodes) {
+    leskofar_nodes_tested answer = leskofar_nodes_test(BOOK(writer), SCRATCH(writer), nodes->at, nodes->length);
+    writer->result = answer.result;
+    writer->position = answer.position;
+    return answer.refusal;
+}
+
 uint32_t writer_fresh(struct writer *writer) {
     return leskofar_fresh(IMAGE(writer));
 }

@@ -13,7 +13,8 @@ struct writer {
     struct bytes book;
     uint8_t scratch[LESKOFAR_SCRATCH];
     uint8_t image[LESKOFAR_IMAGE];
-    uint32_t result;     /* of the last accepted reply or model, as enum leskofar_result has it */
+    uint32_t result;     /* of the last accepted reply or model, as enum leskofar_result has it; of nodes as enum leskofar_nodes_result */
+    uint64_t position;   /* in the last list of nodes that was tested */
     struct bytes text;   /* of the last accepted call */
     struct bytes reason; /* of the last one that had any */
 };
@@ -33,6 +34,9 @@ uint32_t writer_test_book(struct writer *writer);
 uint32_t writer_print(struct writer *writer, uint32_t term, const struct layout *layout);
 uint32_t writer_trace(struct writer *writer, uint32_t node);
 uint32_t writer_listing(struct writer *writer, uint32_t node, uint32_t goal);
+
+/* `nodes` is a list of numbers; what comes of it is the writer's result and position. */
+uint32_t writer_nodes_test(struct writer *writer, const struct bytes *nodes);
 
 uint32_t writer_fresh(struct writer *writer);
 uint32_t writer_ask(struct writer *writer, uint32_t node, uint32_t goal);

@@ -8,6 +8,8 @@
 #   VERDICTS  how many random books host and plan tool judge, and VERDICTS_SEED where they begin
 #   PARTS     which of the groups in tests/host/
 #   PATIENCE  how many seconds a silent solver gets
+#   NODE_PLANS  how many plans with axioms that have no term, NODE_LISTS with how many lists of nodes, and NODE_CHANGES how many books
+#             with a byte changed
 #   MUTANTS   how many plans are changed at random, by MUTANTS_SEED
 #   SPLICES   how many runs have a real solver's answers spoilt
 #   STEP      how many bytes lie between two at which a solver dies
@@ -24,6 +26,9 @@ PLANS=${PLANS:-500}
 OTHER_PLANS=${OTHER_PLANS:-50}
 VERDICTS=${VERDICTS:-500}
 VERDICTS_SEED=${VERDICTS_SEED:-20260111}
+NODE_PLANS=${NODE_PLANS:-25}
+NODE_LISTS=${NODE_LISTS:-20}
+NODE_CHANGES=${NODE_CHANGES:-200}
 MUTANTS=${MUTANTS:-2000}
 MUTANTS_SEED=${MUTANTS_SEED:-24}
 # A changed quantifier may keep a solver busy for ever.
@@ -97,6 +102,16 @@ expect() { # name status [text...]
     [ "$is_good" = no ] || passed=$((passed + 1))
 }
 
+# The status of the last run, and all that it has said: on standard output, or where it is refused on standard error.
+expect_said() { # name status text
+    expect "$1" "$2"
+    printf '%s\n' "$3" >"$work/wanted"
+    case $2 in
+        0 | 1) cmp -s "$out" "$work/wanted" && [ ! -s "$err" ] ;;
+        *) cmp -s "$err" "$work/wanted" && [ ! -s "$out" ] ;;
+    esac && passed=$((passed + 1)) || fail "$1" "another text: $(head -c 500 "$out" "$err")"
+}
+
 # What the last run must not have said.
 expect_not() { # name text
     if grep -qF -- "$2" "$out" "$err"; then
@@ -156,7 +171,7 @@ hangs() { # solver [text...]
     seconds=$ENOUGH
 }
 
-for group in ${PARTS:-usage names sorts verdicts samples faults attacks limits kills stack engines mutants splices plans}; do
+for group in ${PARTS:-usage names sorts verdicts samples nodes faults attacks limits kills stack engines mutants splices plans}; do
     . "tests/host/$group.sh"
 done
 

@@ -54,6 +54,15 @@ static uint32_t move_down(uint32_t node) {
     return leskofar_move(book, written.len, scratch, sizeof scratch, image, sizeof image, node, text, sizeof text).refusal;
 }
 
+/* Down to the node, up, and down again: each walk begins at the levels that the one before it left. */
+static uint32_t test_nodes(uint32_t node) {
+    uint8_t nodes[3 * NUMBER] = {0};
+    put_number(nodes, node);
+    put_number(nodes + 2 * NUMBER, node);
+    leskofar_nodes_tested answer = leskofar_nodes_test(book, written.len, scratch, sizeof scratch, nodes, sizeof nodes);
+    return answer.result == LESKOFAR_NODES_PASS ? answer.refusal : LESKOFAR_MISSING_AXIOM;
+}
+
 static uint32_t ask_at_root(uint32_t goal) {
     (void)leskofar_fresh(image, sizeof image);
     return leskofar_ask(book, written.len, scratch, sizeof scratch, image, sizeof image, 0, goal, text, sizeof text).refusal;
@@ -141,9 +150,10 @@ static void measure(const char *call_name, struct given g, size_t promised, uint
     (void)run_on(small, call_name, call, number);
 }
 
-/* Of the book just written: down to its last node, a question there, and its last term asked at the root. */
+/* Of the book just written: down to its last node, the test of a list with it, a question there, and its last term asked at the root. */
 static void measure_session(struct given g) {
     measure("move", g, LESKOFAR_SESSION_STACK, move_down, written.node);
+    measure("nodes test", g, LESKOFAR_SESSION_STACK, test_nodes, written.node);
     measure("question", g, LESKOFAR_SESSION_STACK, question, written.node);
     measure("ask", g, LESKOFAR_SESSION_STACK, ask_at_root, written.term);
 }

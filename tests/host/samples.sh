@@ -126,9 +126,55 @@ printf '(constant x Int)\n(function f (Int) Int :explained-by (lost))\n(axiom lo
 "$TOOLS/plan" book "$work/lost.plan" -o "$work/lost.book" --goals >"$work/lost.goals" || exit 1
 # shellcheck disable=SC2046
 run prove "$work/lost.book" $(cut -d ' ' -f 1,2 "$work/lost.goals") --show-proof-obligations
-expect 'an axiom without a term' 2 'refused 9: a function that the question needs is explained by an axiom without a term'
+expect 'an axiom without a term' 2 'refused 9: a function that is needed there is explained by an axiom without a term'
 expect_results 'an axiom without a term' 'refused Proved'
 expect_listings 'an axiom without a term' tests/host/listings/lost.txt
+
+# What is said of nodes.
+for sample in limit_proved limit_not_proved siblings distance_axiom open_step patterns shades; do
+    book_of "$sample"
+    run nodes "$work/$sample.book"
+    expect_said "nodes of $sample" 0 "$(grep -c '^(node ' "samples/$sample.plan") nodes can be reached"
+done
+# A goal that is refused 9 says nothing of its node.
+run nodes "$work/lost.book"
+expect_said 'a node with such a goal' 0 '1 node can be reached'
+
+# A node whose premise needs an axiom without a term, its child, which has no trace of its own, and one without any.
+cat >"$work/unreached.plan" <<'PLAN'
+(constant x Int)
+(function f (Int) Int :explained-by (lost))
+(axiom lost :explains (f))
+(node start root (= x 1) :trace "start")
+(node plain start (< x 2) :trace "plain")
+(node hidden start (= (f x) 1) :trace "hidden rule")
+(node below hidden (< x 3))
+(node bare root (= (f x) 2))
+PLAN
+"$TOOLS/plan" book "$work/unreached.plan" -o "$work/unreached.book" || exit 1
+unreached() { # node position trace nodes...
+    text="node $1, at position $2 of the list (the first is 0), would be refused 9: a function that is needed there is explained by an axiom without a term$3"
+    shift 3
+    run nodes "$work/unreached.book" "$@"
+    expect_said "an axiom without a term at nodes $*" 1 "$text"
+}
+hidden='
+  trace:
+      start
+      hidden rule'
+unreached 3 2 "$hidden"
+unreached 4 1 "$hidden" 2 4 3
+unreached 3 3 "$hidden" 0 1 2 3
+unreached 3 0 "$hidden" 3 3 4
+unreached 5 1 '' 1 5
+run nodes "$work/unreached.book" 2 1
+expect_said 'the other nodes' 0 '2 nodes can be reached'
+run nodes "$work/unreached.book" 3 6
+expect 'a node outside behind one that fails' 2 'refused 7: node 6, at position 1 '
+timeout "$HANGS_AFTER" $HOST nodes "$work/unreached.book" >/dev/full 2>"$err"
+status=$?
+: >"$out"
+expect 'a full standard output for a node that fails' 2 'standard output cannot be written'
 
 # A listing can be read while the solver is busy with its question: what was printed at the last check is all but the last answer.
 cat >"$work/looks.sh" <<SOLVER

@@ -5,7 +5,7 @@ book=$work/siblings.book
 
 run --help
 expect 'help' 0 'usage: leskofar COMMAND'
-commands='check print trace listing prove'
+commands='check print trace listing nodes prove'
 [ "$(sed -n 's/^  \([a-z]*\) BOOK .*/\1/p' "$out" | tr '\n' ' ')" = "$commands " ] && passed=$((passed + 1)) ||
     fail 'help' 'other commands, or another order'
 for command in $commands; do
@@ -114,6 +114,86 @@ done
 run listing /no/such/book 4 34
 expect 'listing without its book' 2 '/no/such/book: No such file or directory'
 
+run nodes "$book"
+expect_said 'all nodes' 0 '4 nodes can be reached'
+run nodes "$book" 4
+expect_said 'one node' 0 '1 node can be reached'
+run nodes "$book" 0
+expect_said 'the root' 0 '1 node can be reached'
+run nodes "$book" 4 1 4 0 1
+expect_said 'nodes twice, and in any order' 0 '5 nodes can be reached'
+run nodes -- "$book" 2 3
+expect_said 'nodes behind a --' 0 '2 nodes can be reached'
+# shellcheck disable=SC2046
+run nodes "$book" $(seq 512 | sed 's/.*/3/')
+expect_said 'as many nodes as may be named' 0 '512 nodes can be reached'
+
+# A list that is refused: the book is not blamed.
+# shellcheck disable=SC2046
+run nodes "$book" $(seq 513 | sed 's/.*/3/')
+expect_said 'more nodes than may be named' 2 "leskofar: $book: refused 3: 513 nodes are named, and at most 512 may be"
+# shellcheck disable=SC2046
+run nodes "$book" $(seq 1000 1599)
+expect_said 'more nodes than may be named, all outside' 2 "leskofar: $book: refused 3: 600 nodes are named, and at most 512 may be"
+outside() { # node position nodes...
+    outside=$1
+    position=$2
+    shift 2
+    run nodes "$book" "$@"
+    expect_said "node $outside outside at position $position" 2 \
+        "leskofar: $book: refused 7: node $outside, at position $position of the list (the first is 0), is not in the book, whose last node is 4"
+}
+outside 5 0 5
+outside 5 1 3 5
+outside 5 2 4 3 5 1
+outside 4294967295 0 4294967295 5
+# shellcheck disable=SC2046
+outside 5 511 $(seq 511 | sed 's/.*/4/') 5
+for word in '' x 1x 4294967296 18446744073709551616 0x1 ' 1'; do
+    run nodes "$book" 1 "$word"
+    expect_said "node '$word'" 2 "leskofar: NODE is a number from 0 to 4294967295, not $word"
+done
+run nodes "$book" -1
+expect_said 'a negative node' 2 'leskofar: there is no option -1 here'
+run nodes "$work/short.book"
+expect 'all nodes of a book cut short' 2 'refused 2: the book is under 80 bytes'
+
+printf '(constant x Int)\n(goal g root (= x x))\n' >"$work/bare.plan"
+"$TOOLS/plan" book "$work/bare.plan" -o "$work/bare.book" || exit 1
+run nodes "$work/bare.book"
+expect_said 'a book without nodes' 0 'the book has no node but the root, which can always be reached'
+run nodes "$work/bare.book" 0
+expect_said 'its root' 0 '1 node can be reached'
+run nodes "$work/bare.book" 1
+expect_said 'a node that it has not' 2 \
+    "leskofar: $work/bare.book: refused 7: node 1, at position 0 of the list (the first is 0), is not in the book, whose last node is 0"
+# As many nodes as a book has: below each other as deep as they may be, and then from the root again.
+{
+    echo '(constant p Bool)'
+    seq 512 | awk '{ print "(node n" $1 " " ($1 % 64 == 1 ? "root" : "n" $1 - 1) " p)" }'
+} >"$work/full.plan"
+"$TOOLS/plan" book "$work/full.plan" -o "$work/full.book" || exit 1
+run nodes "$work/full.book"
+expect_said 'all nodes of a full book' 0 '512 nodes can be reached'
+# A section that is too long is the book's fault, whatever list comes with it: letters, of which a book has at most 8,192.
+CONTENTS=80
+LETTERS=8193
+number() { printf "\\$(printf '%03o' $(($1 % 256)))\\$(printf '%03o' $(($1 / 256)))\\000\\000"; }
+{
+    number "$CONTENTS"
+    number "$LETTERS"
+    for _ in 1 2 3 4 5 6 7 8 9; do
+        number $((CONTENTS + LETTERS))
+        number 0
+    done
+    head -c "$LETTERS" /dev/zero
+} >"$work/overfull.book"
+for list in '' 1 "$(seq 513)"; do
+    # shellcheck disable=SC2086
+    run nodes "$work/overfull.book" $list
+    expect_said 'nodes of a book with too many letters' 2 "leskofar: $work/overfull.book: refused 3: a section of the book has more records than it may"
+done
+
 run prove "$book" 3
 expect 'a node without a term' 2 'usage: leskofar prove'
 run prove "$book" 3 34 4
@@ -124,7 +204,7 @@ run prove "$book" 3 34 --log /no/such/file
 expect 'a log that cannot be written' 2 '/no/such/file'
 run prove "$book" 3 34 --log /dev/full
 expect 'a log on a full disk' 2 '/dev/full cannot be written'
-for words in "print $book 34" "listing $book 4 34"; do
+for words in "print $book 34" "listing $book 4 34" "nodes $book"; do
     # shellcheck disable=SC2086
     timeout "$HANGS_AFTER" $HOST $words >/dev/full 2>"$err"
     status=$?
