@@ -43,12 +43,13 @@ enum leskofar_refusal {
 #define LESKOFAR_SCRATCH 1024
 
 /*
- * Bytes of stack that are enough for any call without a session, beside what the caller and its thread take. To print the deepest terms
- * that a book can hold takes nearly all of it, to list them less (docs/PERFORMANCE.md); every other call needs a few thousand bytes.
+ * Bytes of stack that are enough for any call without a session but leskofar_nodes_test, beside what the caller and its thread take. To
+ * print the deepest terms that a book can hold takes nearly all of it, to list them less (docs/PERFORMANCE.md); every other call needs a
+ * few thousand bytes.
  */
 #define LESKOFAR_STACK (200 * 1024)
 
-/* The same for a call on a session, which walks the terms and axioms that it declares, and for leskofar_nodes_test. */
+/* The same for a call on a session, and for leskofar_nodes_test: they walk the terms and axioms that are to be declared. */
 #define LESKOFAR_SESSION_STACK (2048 * 1024)
 
 /*
