@@ -2,7 +2,7 @@
 //! own moves: books that lack an axiom at every place, every refusal, and
 //! random lists.
 
-use crate::made_books::{each_number_changed, faulty_books, good_books};
+use crate::made_books::{each_number_changed, faulty_books, full, good_books};
 use crate::nodes_books::{lacking_books, Lacking};
 use crate::nodes_call::{bytes, numbers, Moves, NodesCall, Outcome};
 use crate::nodes_lengths;
@@ -13,6 +13,7 @@ use crate::nodes_shapes::{visit_failing, visit_list, NODES_SHAPES};
 use crate::nodes_terms::{every_order_in_a_term, every_place_of_a_term};
 use crate::random_inputs::scratch_length;
 use crate::tally::{Met, Tally};
+use leskofar_reference::book::NUMBER_SIZE;
 use leskofar_reference::book_test::{check, SCRATCH_SIZE};
 use leskofar_reference::damage::damaged;
 use leskofar_reference::levels::Levels;
@@ -31,7 +32,7 @@ const MOVED: usize = 4;
 /// ones.
 const AROUND: RangeInclusive<usize> = SCRATCH_SIZE - 4..=SCRATCH_SIZE + 4;
 const OTHERS: [usize; 5] = [0, 1, SCRATCH_SIZE / 2, 2 * SCRATCH_SIZE, 5_000];
-/// What a call may answer.
+/// How calls end.
 pub const PASS_OR_FAIL: [Outcome; 3] =
     [Outcome::Passed, Outcome::FailedAtOnce, Outcome::FailedLater];
 const REFUSED: [Outcome; 7] = [
@@ -58,7 +59,7 @@ fn lists(nodes: u32) -> Vec<Vec<u8>> {
         vec![u32::MAX; MOST_NODES + 1],
         vec![nodes, u32::MAX],
     ];
-    let cut = [vec![0], vec![0; 3], vec![0; 4 * MOST_NODES + 1]];
+    let cut = [1, NUMBER_SIZE - 1, MOST_NODES * NUMBER_SIZE + 1].map(|length| vec![0; length]);
     lists.iter().map(|list| bytes(list)).chain(cut).collect()
 }
 
@@ -116,8 +117,9 @@ fn made_groups(tally: &mut Tally) {
 fn refusal_groups(tally: &mut Tally) {
     tally.group("nodes, every refusal with every later one", || {
         let mut met = Met::default();
+        let nodes = full().contexts.len() as u32;
         for book in &faulty_books() {
-            for nodes in &lists(2) {
+            for nodes in &lists(nodes) {
                 for scratch in [0, SCRATCH_SIZE - 1, SCRATCH_SIZE] {
                     NodesCall { book, nodes }.compare(scratch, &mut met)?;
                 }

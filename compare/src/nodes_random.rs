@@ -145,12 +145,8 @@ pub fn nodes_list(random: &mut Random, nodes: usize) -> Vec<u8> {
     let mut at = random.up_to(nodes);
     for _ in 0..length {
         list.push(at as u32);
-        at = match random.below(4) {
-            0 => at,
-            1 => (at + 1).min(nodes),
-            2 => at.saturating_sub(1),
-            _ => random.up_to(nodes),
-        };
+        let anywhere = random.up_to(nodes);
+        at = random.pick(&[at, (at + 1).min(nodes), at.saturating_sub(1), anywhere]);
     }
     if length > 0 && random.one_in(RARELY) {
         let last = nodes as u32;
