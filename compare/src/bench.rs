@@ -1,6 +1,7 @@
 //! Speed as a ratio to the reference, both measured in this run.
 
 use crate::bench_listing;
+use crate::bench_nodes;
 use crate::bench_sessions;
 use crate::bench_table::{head, row, LONG, SHORT, TERMS};
 use crate::library;
@@ -93,4 +94,5 @@ pub fn run() {
     bench_printing();
     bench_listing::run();
     bench_sessions::run();
+    bench_nodes::run();
 }

@@ -6,6 +6,7 @@
 
 mod bench;
 mod bench_listing;
+mod bench_nodes;
 mod bench_sessions;
 mod bench_table;
 mod book;
@@ -22,6 +23,16 @@ mod made_costly;
 mod made_rules;
 mod made_sessions;
 mod made_terms;
+mod nodes;
+mod nodes_books;
+mod nodes_call;
+mod nodes_lengths;
+mod nodes_library;
+mod nodes_limits;
+mod nodes_random;
+mod nodes_shapes;
+mod nodes_terms;
+mod nodes_trees;
 mod printed;
 mod printing;
 mod random_calls;
@@ -61,6 +72,7 @@ fn main() -> ExitCode {
     sessions::run(&mut tally);
     session_images::run(&mut tally);
     session_tours::run(&mut tally);
+    nodes::run(&mut tally);
     script::run(&mut tally);
     if tally.close() {
         ExitCode::SUCCESS

@@ -153,7 +153,7 @@ pub fn cyclic(program: &Program) -> BTreeSet<usize> {
 }
 
 /// The functions that a term applies.
-fn applied(program: &Program, term: usize) -> Vec<usize> {
+pub fn applied(program: &Program, term: usize) -> Vec<usize> {
     let mut functions: Vec<usize> = match &program.terms[term] {
         RExpr::FuncAppl {
             op: ROperator::UserDefinedFunction(function),

@@ -48,8 +48,13 @@ impl Tally {
 
 /// How often each answer, or each form of input, was met. An answer is 0 for an
 /// accepted call, else the number of the refusal.
-#[derive(Default)]
 pub struct Met<K = u32>(BTreeMap<K, usize>);
+
+impl<K> Default for Met<K> {
+    fn default() -> Met<K> {
+        Met(BTreeMap::new())
+    }
+}
 
 impl<K: Copy + Display + Ord> Met<K> {
     pub fn add(&mut self, key: K) {

@@ -10,7 +10,7 @@ use leskofar_reference::program::RExpr;
 use leskofar_reference::random::Random;
 use leskofar_reference::random_books::{random_book, Counts};
 use leskofar_reference::refusal::{CONTENTS, DEPTH, REPLY_UNSAT};
-use leskofar_reference::{listing, print, trace};
+use leskofar_reference::{listing, nodes_test, print, trace};
 use std::collections::{BTreeMap, BTreeSet};
 
 const SEED: u64 = 20_251_224;
@@ -149,6 +149,8 @@ fn damaged_books_are_refused_alike_by_every_call() {
             assert_eq!(traced, Err(number));
             let listed = listing(&book, &mut scratch, u32::MAX, 0, &mut []);
             assert_eq!(listed, Err(number));
+            let tested = nodes_test(&book, &mut scratch, &[0]);
+            assert_eq!(tested, Err(number));
             let mut desk = Desk::with_book(book);
             assert_eq!(desk.move_to(u32::MAX), Err(number));
             assert_eq!(desk.ask(0, 0), Err(number));

@@ -70,7 +70,7 @@ fn joined(m: &Maker, start: u32, count: u32, text: fn(&Maker, u32) -> String) ->
     texts.join(", ")
 }
 
-fn entries(m: &Maker, start: u32, count: u32) -> &[u32] {
+pub fn entries(m: &Maker, start: u32, count: u32) -> &[u32] {
     &m.lists[start as usize..][..count as usize]
 }
 
