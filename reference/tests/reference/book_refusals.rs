@@ -51,6 +51,27 @@ pub fn changed(change: impl FnOnce(&mut Maker)) -> Result<(), u32> {
     tested(&maker.book())
 }
 
+/// A book for each of the refusals 2 to 6: the full one with a fault.
+pub fn faulty() -> [(Vec<u8>, u32); 5] {
+    let with = |fault: &dyn Fn(&mut Maker)| {
+        let mut maker = full();
+        fault(&mut maker);
+        maker.book()
+    };
+    let mut longer = full().book();
+    longer.push(0);
+    [
+        (longer, CONTENTS),
+        (
+            with(&|m| m.lists.resize(Section::Lists.most() + 1, 0)),
+            COUNT,
+        ),
+        (with(&|m| m.letters.push(b'\n')), FIELD),
+        (with(&|m| m.contexts[0][1] = m.contexts[1][1]), FOREST),
+        (with(&chain(MOST_DEPTH + 1)), DEPTH),
+    ]
+}
+
 fn put(book: &mut [u8], at: usize, number: u32) {
     book[at..at + NUMBER_SIZE].copy_from_slice(&number.to_le_bytes());
 }

@@ -1,15 +1,12 @@
 //! A listing's refusals, 1 to 7 and 10, and their order.
 
-use crate::book_refusals::full;
+use crate::book_refusals::faulty;
 use crate::desk::buffer;
 use crate::listing::{listed, listed_from, ROOM, TITLE};
-use leskofar_reference::book::Section;
-use leskofar_reference::book_test::{MOST_DEPTH, SCRATCH_SIZE};
+use leskofar_reference::book_test::SCRATCH_SIZE;
 use leskofar_reference::listing;
 use leskofar_reference::maker::{sample, Maker};
-use leskofar_reference::refusal::{
-    CONTENTS, COUNT, DEPTH, FIELD, FOREST, NOT_IN_BOOK, SCRATCH_SHORT, TOO_LONG,
-};
+use leskofar_reference::refusal::{NOT_IN_BOOK, SCRATCH_SHORT, TOO_LONG};
 
 #[test]
 fn a_listing_filling_its_buffer_passes() {
@@ -47,33 +44,13 @@ fn seven_is_for_nodes_and_goals_outside_and_comes_before_ten() {
 
 #[test]
 fn one_to_six_come_before_seven() {
-    let refused = |fault: fn(&mut Maker)| {
-        let mut m = full();
-        fault(&mut m);
-        let book = m.book();
-        let answers = [(0, 0), (u32::MAX, 0), (0, u32::MAX)]
-            .map(|(node, goal)| listed_from(&book, node, goal, 0).expect_err("refused"));
-        assert_eq!(answers, [answers[0]; 3]);
-        answers[0]
-    };
-    assert_eq!(
-        refused(|m| m.lists.resize(Section::Lists.most() + 1, 0)),
-        COUNT
-    );
-    assert_eq!(refused(|m| m.letters.push(b'\n')), FIELD);
-    assert_eq!(refused(|m| m.contexts[0][1] = m.contexts[1][1]), FOREST);
-    let too_deep = |m: &mut Maker| {
-        for _ in 0..=MOST_DEPTH {
-            let term = m.boolean(true);
-            m.context(m.contexts.len() as u32, term);
+    for (book, refusal) in faulty() {
+        for (node, goal) in [(0, 0), (u32::MAX, 0), (0, u32::MAX)] {
+            assert_eq!(listed_from(&book, node, goal, 0), Err(refusal));
         }
-    };
-    assert_eq!(refused(too_deep), DEPTH);
-    let mut book = full().book();
-    book.push(0);
-    assert_eq!(listed_from(&book, u32::MAX, 0, 0), Err(CONTENTS));
-    let mut scratch = buffer(SCRATCH_SIZE - 1);
-    let answer = listing(&book, &mut scratch, u32::MAX, 0, &mut []);
-    assert_eq!(answer, Err(SCRATCH_SHORT));
-    assert_eq!(scratch, buffer(SCRATCH_SIZE - 1));
+        let mut scratch = buffer(SCRATCH_SIZE - 1);
+        let answer = listing(&book, &mut scratch, u32::MAX, 0, &mut []);
+        assert_eq!(answer, Err(SCRATCH_SHORT));
+        assert_eq!(scratch, buffer(SCRATCH_SIZE - 1));
+    }
 }

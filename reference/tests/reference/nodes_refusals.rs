@@ -1,17 +1,15 @@
 //! The refusals of a list of nodes, 1 to 6, 3 for its length and 7, and their
 //! order.
 
-use crate::book_refusals::full;
+use crate::book_refusals::faulty;
 use crate::desk::buffer;
 use crate::nodes::{lacking, list, tested_from};
-use leskofar_reference::book::{Section, NUMBER_SIZE};
-use leskofar_reference::book_test::{MOST_DEPTH, SCRATCH_SIZE};
+use leskofar_reference::book::NUMBER_SIZE;
+use leskofar_reference::book_test::SCRATCH_SIZE;
 use leskofar_reference::maker::{sample, Maker};
 use leskofar_reference::nodes::MOST_NODES;
 use leskofar_reference::nodes_test;
-use leskofar_reference::refusal::{
-    CONTENTS, COUNT, DEPTH, FIELD, FOREST, NOT_IN_BOOK, SCRATCH_SHORT,
-};
+use leskofar_reference::refusal::{COUNT, NOT_IN_BOOK, SCRATCH_SHORT};
 
 /// Nodes of `lacking`.
 const HARMLESS: u32 = 1;
@@ -96,30 +94,10 @@ fn three_for_a_longer_list_comes_before_seven() {
 
 #[test]
 fn one_to_six_come_first() {
-    let refused = |fault: fn(&mut Maker)| {
-        let mut m = full();
-        fault(&mut m);
-        let book = m.book();
-        let answers = bad_lists().map(|nodes| tested_from(&book, &nodes));
-        assert_eq!(answers, [answers[0]; 4]);
-        assert_eq!(tested_from(&book, &[]), answers[0]);
-        answers[0].expect_err("refused")
-    };
-    assert_eq!(refused(|m| m.letters.push(b'\n')), FIELD);
-    assert_eq!(refused(|m| m.contexts[0][1] = m.contexts[1][1]), FOREST);
-    let too_deep = |m: &mut Maker| {
-        for _ in 0..=MOST_DEPTH {
-            let term = m.boolean(true);
-            m.context(m.contexts.len() as u32, term);
+    for (book, refusal) in faulty() {
+        for nodes in bad_lists().iter().chain([&vec![]]) {
+            assert_eq!(tested_from(&book, nodes), Err(refusal));
         }
-    };
-    assert_eq!(refused(too_deep), DEPTH);
-    let too_many = |m: &mut Maker| m.lists.resize(Section::Lists.most() + 1, 0);
-    assert_eq!(refused(too_many), COUNT);
-    let mut book = full().book();
-    book.push(0);
-    for nodes in bad_lists() {
-        assert_eq!(tested_from(&book, &nodes), Err(CONTENTS));
     }
 }
 
