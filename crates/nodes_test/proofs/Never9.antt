@@ -10,7 +10,7 @@ use lib.ListN.{length, getD}
 use borrow.Author.Tests.{eqb-true, not-true}
 use Rattle.basics.specs.Lists.{member}
 use Rattle.basics.specs.Buffer.{scratchLeast}
-use Rattle.basics.specs.Outcome.{Outcome, refused, accepted, refuse, _>>_, mapOutcome}
+use Rattle.basics.specs.Outcome.{refused, accepted}
 use Rattle.basics.proofs.Bool.{or-second}
 use Rattle.basics.proofs.Refusals.{NotNumber, guarded, passing}
 use Rattle.book.specs.Book.{Book, contexts, size}
@@ -28,18 +28,8 @@ use Rattle.solvers.specs.ByBook.{callByBook, moveByBook}
 use Rattle.solvers.proofs.ByBook.{by-book}
 use Rattle.nodes_test.specs.NodesTest.{couldMove, firstFailing, allInside, nodesMost, nodesIn, nodesTested}
 use Rattle.nodes_test.specs.Reach.{Never9}
+use Rattle.nodes_test.proofs.Outcomes.{same-answer, both, past, refused-alike}
 use Rattle.nodes_test.proofs.First.{first}
-
--- both of two steps were accepted
-both : {A : Type 0} {a : A} (o : Outcome (Unit {0})) (rest : Outcome A) → (o >> rest) ≡ accepted a → (o ≡ accepted tt) × (rest ≡ accepted a)
-unfolding _>>_
-both (refused k) rest e = let z : _≡_ {A = ℕ} 0 1 = cc in absurd (omega arith)
-both (accepted tt) rest e = (refl, e)
-
--- what holds behind a refusal that is not met
-past : {A : Type 0} (P : Outcome A → Type 0) (k : ℕ) {x : Bool} (rest : Outcome A) → x ≡ false → P rest → P (refuse k x >> rest)
-unfolding refuse _>>_
-past P k rest e h = rw e h
 
 -- a move, by the book alone
 module _ (b : Book) (ok : bookTest b ≡ accepted tt) (n : ℕ) (could : couldMove (program b) n ≡ true) where
@@ -81,15 +71,7 @@ passes scratch b ns e =
     let r1 = both (ready scratch b) _ e in
     let r3 = passed 3 (ltb nodesMost (length ns)) _ (r1 .1) in
     let r7 = passed 7 (not (allInside b ns)) _ (r3 .1) in
-    record { tested = ready-passed scratch b (r1 .0) .1; none′ = answer (r7 .1) }
-  where
-    answer : {A : Type 0} {x y : A} → accepted x ≡ accepted y → x ≡ y
-    answer e = cc
-
-answer-is : {A B : Type 0} (f : A → B) (o : Outcome A) {k : ℕ} → mapOutcome f o ≡ refused k → o ≡ refused k
-unfolding mapOutcome
-answer-is f (refused j) e = cc
-answer-is f (accepted a) e = let z : _≡_ {A = ℕ} 0 1 = cc in absurd (omega arith)
+    record { tested = ready-passed scratch b (r1 .0) .1; none′ = same-answer (r7 .1) }
 
 pub never-9 : (scratch : ℕ) (b : Book) (nodes : List ℕ) → nodesTested scratch b nodes ≡ accepted none → Never9 b nodes
 unfolding calledOnImage called left
@@ -100,5 +82,5 @@ never-9 scratch b ns e =
     record {
       after = λ cs h n m. never b (t .tested) n (could n m) (run b cs .now) h;
       session = λ s h n m. never b (t .tested) n (could n m) s h;
-      image = λ image h n m z. never b (t .tested) n (could n m) (readImage image) h (answer-is values (call b (readImage image) (moveTo h n)) z);
+      image = λ image h n m z. never b (t .tested) n (could n m) (readImage image) h (refused-alike values (call b (readImage image) (moveTo h n)) z);
     }

@@ -8,7 +8,7 @@ use lib.Dec.{ltb}
 use lib.ListN.{length, replicate, length-replicate}
 use borrow.Author.Tests.{le-ltb, not-true, not-false}
 use Rattle.basics.specs.Buffer.{scratchLeast}
-use Rattle.basics.specs.Outcome.{Outcome, refused, accepted, refuse, _>>_}
+use Rattle.basics.specs.Outcome.{refused, accepted, refuse, _>>_}
 use Rattle.book.specs.Book.{Book, contexts, size}
 use Rattle.book.specs.Program.{nodeAt, path, pathUp}
 use Rattle.book.specs.Decode.{program}
@@ -28,13 +28,7 @@ use Rattle.solvers.proofs.Holds.{rootPresent, G, T, fits-start}
 use Rattle.solvers.proofs.Straight.{roomFor, nobody, pass, pass-all, ready-ok, valid-start, owes-start, move-yes}
 use Rattle.nodes_test.specs.NodesTest.{couldMove}
 use Rattle.nodes_test.specs.Reach.{MovesIn, Reaches, FromRoot}
-
-not-both : {A : Type 0} {k : ℕ} {a : A} → refused k ≡ accepted a → ⊥
-not-both e = false≢true (ap isAccepted e)
-  where
-    isAccepted : {A : Type 0} → Outcome A → Bool
-    isAccepted (refused k) = false
-    isAccepted (accepted a) = true
+use Rattle.nodes_test.proofs.Outcomes.{not-both}
 
 module _ (b : Book) (ok : bookTest b ≡ accepted tt) where
   -- where a fresh session stands
