@@ -24,11 +24,11 @@ enum leskofar_refusal {
     LESKOFAR_ACCEPTED = 0,
     LESKOFAR_SHORT_SCRATCH = 1,      /* the scratch is shorter than LESKOFAR_SCRATCH */
     LESKOFAR_BAD_CONTENTS = 2,       /* the book's table of contents is not as laid out */
-    LESKOFAR_COUNT_OVER_LIMIT = 3,   /* a section has more records than it may */
+    LESKOFAR_COUNT_OVER_LIMIT = 3,   /* a section has more records than it may, or a list more nodes */
     LESKOFAR_FIELD_OUT_OF_RANGE = 4, /* a field or list entry is out of range, an unused field is not 0, or a letter is bad */
     LESKOFAR_NO_FOREST = 5,          /* a child is not smaller than its parent, or a term is referred to twice */
     LESKOFAR_TOO_DEEP = 6,           /* a node is deeper than 64 */
-    LESKOFAR_NOT_IN_BOOK = 7,        /* the call's node or term is not in the book */
+    LESKOFAR_NOT_IN_BOOK = 7,        /* a node or term of the call is not in the book */
     LESKOFAR_REPLY_IS_UNSAT = 8,     /* a model is given for the reply unsat */
     LESKOFAR_MISSING_AXIOM = 9,      /* a function to be declared has an axiom without a term */
     LESKOFAR_BUFFER_TOO_SHORT = 10,  /* the text or the reason is longer than its buffer */
