@@ -1,1 +1,4 @@
-mod Names
+mod Looking
+pub mod Searching
+mod Going
+mod Declaring

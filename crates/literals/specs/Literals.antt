@@ -1,10 +1,10 @@
--- Names of literals, and the step that declares one.
+-- The step that declares a literal.
 use Prim.Native.Nat.{ℕ, _+_}
 use mathlib.Core.Bool.{Bool, not, _&&_, _||_}
-use mathlib.Core.List.{List, _∷_, _++_}
+use mathlib.Core.List.{List}
 use lib.Dec.{eqb}
 use lib.ListN.{getD}
-use Rattle.basics.specs.Text.{Text, ascii}
+use Rattle.basics.specs.Text.{Text}
 use Rattle.book.specs.Book.{Book}
 use Rattle.book.specs.Decode.{literalOf, literalAt}
 use Rattle.solver_expr.specs.Lowering.{isTag, literalName}
@@ -12,13 +12,6 @@ use Rattle.rsolver.specs.Step.{Step, _⨟_, unless}
 use Rattle.rsolver.specs.LevelState.{LevelState, literalPlaces, hasName}
 use Rattle.rsolver.specs.REngine.{declareNewTypes, declareLiteral}
 use Rattle.levels.specs.Types.{engine}
-
--- a name between its bars, and the whole
-abbrev pub pairText : Text → Text → Text
-pairText s typ = s ++ (0x3A ∷ typ)
-
-unfoldable pub barred : Text → Text → Text
-barred s typ = ascii "|" ++ s ++ ascii ":" ++ typ ++ ascii "|"
 
 -- term k is a literal that declared the name
 unfoldable pub declaresName : Book → Text → (levels : List ℕ) → ℕ → Bool

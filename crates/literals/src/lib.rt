@@ -1,121 +1,48 @@
-// Literals are told apart by their whole names, |s:type|: one function finds a declared one by its name's text.
+// Declares literals. One whose whole name is declared already is not declared again.
 ghost use mathlib.Core.Path.{_≡_};
-ghost use Prim.Native.Nat.{_+_, _<_, _≤_};
-ghost use lib.ListN.{length, getD, drop};
-ghost use Rattle.basics.specs.Text.{same};
+ghost use Prim.Native.Nat.{_<_};
+ghost use lib.ListN.{length, drop};
 ghost use Rattle.book.specs.Book.{terms, size};
 ghost use Rattle.book.specs.Decode.{literalOf, program};
 ghost use Rattle.book_test.specs.Promise.{Promise, GoodLiteral};
 ghost use Rattle.solver_expr.specs.Lowering.{isTag, literalName};
 ghost use Rattle.rsolver.specs.LevelState.{literalPlaces, levelCount, nameIn};
 ghost use Rattle.levels.specs.Did.{Ready, Did};
-ghost use Rattle.literals.specs.Literals.{pairText, barred, declaresName, newLiteralStep, literalStep};
-use book::count;
+ghost use Rattle.literals.specs.Literals.{newLiteralStep, literalStep};
+ghost use Rattle.literals.specs.Search.{isFound, searchValue};
 use book::field;
 use book::format::*;
+use finding::find_literal;
 use levels::LITERAL_PLACES;
 use levels::Progress;
 use levels::declare_new_types;
 use levels::mark;
+use literal_names::Sought;
+use literal_names::same;
 use records::named;
 
-// Two slices hold the same bytes.
-fn same(a: &[u8], b: &[u8]) -> bool
-    ensures { λ r. ⌜ r ≡ same (now (a .entry)) (now (b .entry)) ⌝ }
-{
-    if a.len() != b.len() {
-        return false;
-    }
-    let mut i = 0;
-    while i < a.len() {
-        if a[i] != b[i] {
-            return false;
-        }
-        i += 1;
-    }
-    true
+mod finding;
+
+// Where a search ends.
+pub enum Found {
+    Term(usize),
+    Nothing,
 }
 
-// Byte i of a literal's name between the bars.
-fn pair_byte(s: &[u8], typ: &[u8], i: usize) -> u8
-    requires { ⌜ i < length (pairText (now s) (now typ)) ⌝ }
-    ensures { λ r. ⌜ r ≡ getD (pairText (now (s .entry)) (now (typ .entry))) i 0 ⌝ }
-{
-    if i < s.len() {
-        return s[i];
-    }
-    if i == s.len() {
-        return b':';
-    }
-    typ[i - s.len() - 1]
+// A search, and how many literal terms it has gone through.
+pub struct Search {
+    pub found: Found,
+    pub gone: usize,
 }
 
-// Two names are the same between their bars, wherever the first colon is.
-fn same_pair(s: &[u8], typ: &[u8], s2: &[u8], typ2: &[u8]) -> bool
-    ensures { λ r. ⌜ r ≡ same (barred (now (s .entry)) (now (typ .entry))) (barred (now (s2 .entry)) (now (typ2 .entry))) ⌝ }
+fn is_found(r: Search) -> bool
+    ensures { λ t. ⌜ t ≡ isFound (searchValue r) ⌝ }
 {
-    let n = s.len() + typ.len();
-    if n != s2.len() + typ2.len() {
-        return false;
+    let found = r.found;
+    match found {
+        Found::Term(k) => true,
+        Found::Nothing => false,
     }
-    let mut i = 0;
-    while i <= n {
-        if pair_byte(s, typ, i) != pair_byte(s2, typ2, i) {
-            return false;
-        }
-        i += 1;
-    }
-    true
-}
-
-// The literal that term k is has this name.
-fn has_name(book: &[u8], k: usize, s: &[u8], typ: &[u8]) -> bool
-    requires { ⌜ Promise (now book) × (k < size (now book) terms) × GoodLiteral (now book) k ⌝ }
-    ensures { λ r. ⌜ r ≡ same (barred (now (s .entry)) (now (typ .entry))) (literalName (literalOf (now (book .entry)) k)) ⌝ }
-{
-    let other = named(book, TERMS, k, LITERAL_NAME);
-    let other_type = field(book, TERMS, k, LITERAL_TYPE);
-    match other_type {
-        BOOL => same_pair(s, typ, other, b"bool"),
-        INT => same_pair(s, typ, other, b"int"),
-        USER_TYPES.. => same_pair(
-            s,
-            typ,
-            other,
-            named(book, TYPES, other_type - USER_TYPES, TYPE_NAME),
-        ),
-    }
-}
-
-// Term k declared this name.
-fn declares_name(book: &[u8], k: usize, s: &[u8], typ: &[u8], levels: &[u8]) -> bool
-    requires { ⌜ Promise (now book) × (k < size (now book) terms) × (length (now levels) ≡ levelCount) ⌝ }
-    ensures { λ r. ⌜ r ≡ declaresName (now (book .entry)) (barred (now (s .entry)) (now (typ .entry))) (now (levels .entry)) k ⌝ }
-{
-    if levels[LITERAL_PLACES + k] == 0 {
-        return false;
-    }
-    if field(book, TERMS, k, KIND) == CUSTOM_LITERAL {
-        has_name(book, k, s, typ)
-    } else {
-        false
-    }
-}
-
-// Finds a declared literal by its name's text.
-fn find_literal(book: &[u8], s: &[u8], typ: &[u8], levels: &[u8]) -> bool
-    requires { ⌜ Promise (now book) × (length (now levels) ≡ levelCount) ⌝ }
-    ensures { λ r. ⌜ r ≡ nameIn (barred (now (s .entry)) (now (typ .entry))) (program (now (book .entry)) .literals) (drop literalPlaces (now (levels .entry))) ⌝ }
-{
-    let all = count(book, TERMS);
-    let mut k = 0;
-    while k < all {
-        if declares_name(book, k, s, typ, levels) {
-            return true;
-        }
-        k += 1;
-    }
-    false
 }
 
 // The name of the literal that term t is, is declared.
@@ -125,15 +52,21 @@ fn is_named(book: &[u8], t: usize, levels: &[u8]) -> bool
 {
     let s = named(book, TERMS, t, LITERAL_NAME);
     let typ = field(book, TERMS, t, LITERAL_TYPE);
+    let name = field(book, TERMS, t, LITERAL_NAME);
+    let sought = Sought {
+        name: name,
+        typ: typ,
+    };
     match typ {
-        BOOL => find_literal(book, s, b"bool", levels),
-        INT => find_literal(book, s, b"int", levels),
-        USER_TYPES.. => find_literal(
+        BOOL => is_found(find_literal(book, sought, s, b"bool", levels)),
+        INT => is_found(find_literal(book, sought, s, b"int", levels)),
+        USER_TYPES.. => is_found(find_literal(
             book,
+            sought,
             s,
             named(book, TYPES, typ - USER_TYPES, TYPE_NAME),
             levels,
-        ),
+        )),
     }
 }
 

@@ -29,6 +29,7 @@ use Rattle.rsolver.specs.SolverState.{sameMarker, isIn, with′, newSolver, isT
 use Rattle.rsolver.specs.REngine.{withConstants, declareType, declareConstant, declareFunction, declareLiteral, assume, assumeNot, check, askModel, endCheck, declareNewTypes, declareTypeOf, sendAxiom, includeAxiom, declareOperator, declareSymbols, declareAllSymbols, declarePatternSymbols, walk, declareNewSymbols, enter, adjustContext, popTimes, setContext, askGoal, closeGoal}
 use Rattle.rsolver.specs.Trace.{traceLine, traceOf as traceOfPath, printTrace, traceText, traceCall}
 use Rattle.rsolver.specs.Listing.{COMMA, boundVarToString, boundVarsToString, customLiteralToString, quantifierOpening, rexprToString, rexprStrings, patternsToString, rexprListToString, listingLine, printContext, printProofObligation, listingText, listingCall}
+use Rattle.literals.specs.Search.{namedAt, firstNamed, literalCount, goneThrough, search}
 use Rattle.solvers.specs.Session.{textOf, freshSession, resume, moved, asked, move, ask, closed, isUnsat, replied, giveReply, giveModel}
 use Rattle.solvers.specs.Calls.{owes, goalFits, isSession, reasonOf, fitting, moveCall, askCall, replyCall, modelCall, hostOf, call}
 use Rattle.solvers.specs.Left.{answerValue, valuesBy, values, reason, sessionAfter, left, called}
@@ -64,11 +65,16 @@ unfoldable pub calling : Unit {0}
 unfolding textOf freshSession resume moved asked move ask closed isUnsat replied giveReply giveModel owes goalFits isSession reasonOf fitting moveCall askCall replyCall modelCall hostOf call answerValue valuesBy values reason sessionAfter left called bytes4 owedNumber owedOf writeImage noSession isImage readImage imageAfter calledOnImage shared standing settle nodeCommands levelsOf goalState goalCommands denialCommands goalLevels levelsFor entering moveCommands questionCommands present nextReply next nodeLevels mustLive sessionAt replyCommands said after runFrom start run straightTo straight moveByBook askByBook callByBook onReply doCall doIfAccepted doFrom doAll glue cut lines kind join dropped hearKind hear hearAll read
 calling = tt
 
+-- the search for a literal
+unfoldable pub searching : Unit {0}
+unfolding namedAt firstNamed literalCount goneThrough search
+searching = tt
+
 -- the test of a list of nodes
 unfoldable pub reaching : Unit {0}
 unfolding numbers couldMove firstFailing allInside nodesIn nodesTested nodesTestedValue nodesTestCall
 reaching = tt
 
 unfoldable pub everything : Unit {0}
-unfolding testing printing sending listing calling reaching
+unfolding testing printing sending searching listing calling reaching
 everything = tt

@@ -9,5 +9,6 @@ pub mod Refusals
 pub mod Depths
 pub mod Lists
 pub mod Sessions
+pub mod Searches
 pub mod Nodes
 pub mod Scripts

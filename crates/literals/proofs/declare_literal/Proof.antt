@@ -1,14 +1,9 @@
 use mathlib.Core.Path.{sym, _∙_}
 use native.Mathlib.Omega.{arith}
-use Rattle.literals.proofs.Names.{literal-tag, literal-old, literal-sent}
+use Rattle.literals.proofs.Declaring.{literal-tag, literal-old, literal-sent}
 use borrow.Author.Needs.{needs}
 use Rattle.literals.proofs.declare_literal.Statement.{statement}
 use Rattle.literals.proofs.declare_literal.Tie as tie
-use Rattle.literals.proofs.declare_literal.Reads as reads
-use Rattle.literals.proofs.declare_literal.Lts as lts
-use Rattle.literals.proofs.is_named.Reads as is-named-reads
-use Rattle.literals.proofs.is_tag.Reads as is-tag-reads
-use Rattle.literals.proofs.send_literal.Reads as send-literal-reads
 
 is-tag-requires : tie.Need-is-tag-requires
 is-tag-requires c κs = (c .before .before .before .pre .0 .promise, c .before .before .before .pre .1, c .before .before .before .pre .2)
@@ -19,20 +14,11 @@ returns c = literal-tag _ _ _ _ _ _ (sym (c .before .is-tag .ensures) ∙ c .if1
 is-named-requires : tie.Need-is-named-requires
 is-named-requires c κs = (c .before .before .before .before .before .before .pre .0 .promise, c .before .before .before .before .before .before .pre .1, c .before .before .before .before .before .before .pre .2, c .before .before .before .before .before .before .pre .0 .wide)
 
-same-length : tie.Need-same-length
-same-length c = search needs
-
 returns-2 : tie.Need-returns-2
 returns-2 c = literal-old _ _ _ _ _ _ (sym (c .before .before .before .before .is-tag .ensures) ∙ c .before .before .before .if1 .left) (sym (c .before .is-named .ensures) ∙ c .if2 .taken) (omega (arith, c .before .before .before .before .before .before .before .before .good .1 .1 .1 .1 .0))
 
 send-literal-requires : tie.Need-send-literal-requires
 send-literal-requires c κs = c .before .before .before .before .before .before .before .before .before .before .pre
-
-same-length-2 : tie.Need-same-length-2
-same-length-2 c = search needs
-
-same-length-3 : tie.Need-same-length-3
-same-length-3 c = search needs
 
 returns-3 : tie.Need-returns-3
 returns-3 c = literal-sent _ _ (sym (c .before .before .before .before .before .before .before .before .before .before .before .is-tag .ensures) ∙ c .before .before .before .before .before .before .before .before .before .before .if1 .left) (sym (c .before .before .before .before .before .before .before .before .is-named .ensures) ∙ c .before .before .before .before .before .before .before .if2 .left) (c .before .before .before .before .send-literal .ensures)
@@ -44,9 +30,9 @@ declare-literal-spec =
     is-tag-requires
     returns
     is-named-requires
-    same-length
+    (λ c. search needs)
     returns-2
     send-literal-requires
-    same-length-2
-    same-length-3
+    (λ c. search needs)
+    (λ c. search needs)
     returns-3)

@@ -8,23 +8,13 @@ use native.Mathlib.Omega.{arith}
 use borrow.Author.Needs.{needs}
 use Rattle.literals.proofs.is_tag.Statement.{statement}
 use Rattle.literals.proofs.is_tag.Tie as tie
-use Rattle.literals.proofs.is_tag.Reads as reads
-use Rattle.literals.proofs.is_tag.Lts as lts
-use Rattle.literals.proofs.same.Reads as same-reads
-use Rattle.records.proofs.named.Reads as named-reads
 
 named-requires : tie.Need-named-requires
 named-requires c κs = named-term (c .before .pre .0) (c .before .pre .1) (c .before .pre .2 .name)
-
-slice-aggregate-same : tie.Need-slice-aggregate-same
-slice-aggregate-same c = search needs
-
-same-requires : tie.Need-same-requires
-same-requires c κs = search needs
 
 returns : tie.Need-returns
 unfolding isTag literalOf
 returns c = c .same .ensures ∙ ap (λ (x : Text). same x (ascii "%tag")) (c .before .before .named .ensures)
 
 pub is-tag-spec : {M : Type 1} → statement M
-is-tag-spec = tie.close (tie.spec named-requires slice-aggregate-same same-requires returns)
+is-tag-spec = tie.close (tie.spec named-requires (λ c. search needs) (λ c κs. search needs) returns)

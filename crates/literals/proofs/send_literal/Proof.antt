@@ -1,16 +1,10 @@
 use native.Mathlib.Omega.{arith}
 use mathlib.Core.Path.{refl}
 use Rattle.records.proofs.Readers.{reads-term}
-use Rattle.literals.proofs.Names.{literal-new}
+use Rattle.literals.proofs.Declaring.{literal-new}
 use borrow.Author.Needs.{needs}
 use Rattle.literals.proofs.send_literal.Statement.{statement}
 use Rattle.literals.proofs.send_literal.Tie as tie
-use Rattle.literals.proofs.send_literal.Reads as reads
-use Rattle.literals.proofs.send_literal.Lts as lts
-use Rattle.book.proofs.field.Reads as field-reads
-use Rattle.levels.proofs.mark.Reads as mark-reads
-use Rattle.levels.proofs.declare_new_types.Reads as declare-new-types-reads
-use Rattle.smt_engines.proofs.declare_literal.Reads as declare-literal-reads
 
 field-requires : tie.Need-field-requires
 field-requires c κs = reads-term (c .before .before .before .pre .0 .promise) 2 (omega arith) (c .before .before .before .pre .1)
@@ -27,12 +21,6 @@ mark-requires c κs = omega (arith, c .before .before .before .before .before .b
 declare-literal-requires : tie.Need-declare-literal-requires
 declare-literal-requires c κs = (c .before .before .before .before .before .before .before .before .before .before .before .before .before .before .before .before .pre .0 .promise, c .before .before .before .before .before .before .before .before .before .before .before .before .before .before .before .before .pre .1, c .before .before .before .before .before .before .before .before .before .before .before .before .before .before .before .before .pre .2)
 
-same-length : tie.Need-same-length
-same-length c = search needs
-
-same-length-2 : tie.Need-same-length-2
-same-length-2 c = search needs
-
 returns : tie.Need-returns
 returns c = literal-new _ _ (c .before .before .before .before .before .before .before .before .before .before .before .before .before .before .before .before .before .before .before .good .1 .1 .1 .1 .1 .0 .0) (c .before .before .before .before .before .before .before .before .before .before .before .before .before .before .before .field .ensures .is) (c .before .before .before .before .before .before .before .before .before .before .before .before .declare-new-types .ensures) (c .before .before .before .before .before .before .mark .ensures) (c .before .before .declare-literal .ensures) refl
 
@@ -45,6 +33,6 @@ send-literal-spec =
     add-mark
     mark-requires
     declare-literal-requires
-    same-length
-    same-length-2
+    (λ c. search needs)
+    (λ c. search needs)
     returns)

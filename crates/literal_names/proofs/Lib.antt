@@ -1,0 +1,4 @@
+pub mod Equal
+mod Stepping
+mod Pairs
+pub mod Naming
