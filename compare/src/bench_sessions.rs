@@ -7,7 +7,7 @@ use crate::made_costly::{alike, explained_often};
 use crate::made_terms::{flat, nest_of};
 use crate::session_library::{self as library, Answer, Buffers};
 use crate::timing::{fastest, percent, ratio};
-use leskofar_reference::book::{kind, BOOL, INT};
+use leskofar_reference::book::{kind, Section, BOOL, INT};
 use leskofar_reference::book_test::SCRATCH_SIZE;
 use leskofar_reference::fresh_image;
 use leskofar_reference::maker::Maker;
@@ -22,6 +22,8 @@ const LITERALS: [usize; 4] = [125, 250, 500, 1000];
 const ENTRIES: [usize; 4] = [256, 512, 1024, 2048];
 /// Letters of literals whose names differ late.
 const ALIKE: [usize; 3] = [512, 1024, 2048];
+/// As many as there can be beside the operator.
+const ALIKE_NAMES: usize = Section::Names.most() - 1;
 /// The names of the arguments of flat terms.
 const LETTERS: usize = 9;
 /// The nest that costs a call for each term.
@@ -217,7 +219,7 @@ pub fn run() {
         bench_move(
             "literals that differ late, by letters",
             letters,
-            alike(letters),
+            alike(letters, ALIKE_NAMES),
         );
     }
     for entries in ENTRIES {

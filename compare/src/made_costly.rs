@@ -70,12 +70,11 @@ fn add_nest(m: &mut Maker, terms: usize) -> u32 {
     whole
 }
 
-/// As many names as there can be, nearly, each so many letters long, which
-/// differ in their last letters; two literals of each.
-pub fn alike(letters: usize) -> Maker {
+/// So many names, each so many letters long, which differ in their last
+/// letters; two literals of each. One name goes to the operator.
+pub fn alike(letters: usize, names: usize) -> Maker {
     let mut m = Maker::default();
     let op = m.name("and");
-    let names = Section::Names.most() - 1;
     let first = m.letters.len();
     m.letters.extend(vec![b'a'; letters + names]);
     // A name that starts one letter later has the only other letter one place earlier.
