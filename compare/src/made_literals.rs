@@ -16,6 +16,8 @@ const NODES: usize = Section::Contexts.most();
 const NAMES: usize = Section::Names.most();
 /// So long that as many names as there can be fill the letters.
 const NAME_LETTERS: usize = Section::Letters.most() / NAMES;
+/// The record that operators share, which so take no name from the literals.
+pub const FIRST_NAME: u32 = 0;
 /// Names that a goal below the deepest node declares.
 pub const NEW_NAMES: usize = 2;
 
@@ -124,8 +126,7 @@ pub fn literal_arguments(fill: Filling, highest_first: bool) -> Maker {
         args.reverse();
     }
     let [start, count] = m.list(&args);
-    // There may be no name left for the operator.
-    let term = m.term(kind::BUILT_IN, [0, start, count]);
+    let term = m.term(kind::BUILT_IN, [FIRST_NAME, start, count]);
     m.context(0, term);
     m
 }
@@ -163,7 +164,7 @@ pub fn below_the_deepest() -> Maker {
     m.terms.extend(arguments);
     let args: Vec<u32> = (begin..m.terms.len() as u32).collect();
     let [start, count] = m.list(&args);
-    m.term(kind::BUILT_IN, [0, start, count]);
+    m.term(kind::BUILT_IN, [FIRST_NAME, start, count]);
     m
 }
 

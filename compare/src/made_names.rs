@@ -1,7 +1,7 @@
 //! Books of literals whose names are nearly alike: in one letter, in how they
 //! begin or end, in their places.
 
-use crate::made_literals::Literal;
+use crate::made_literals::{Literal, FIRST_NAME};
 use leskofar_reference::book::{kind, FIRST_USER_TYPE, INT};
 use leskofar_reference::book_test::{FIRST_LETTER, LAST_LETTER};
 use leskofar_reference::maker::Maker;
@@ -48,7 +48,7 @@ pub fn in_two_orders(m: &mut Maker, literals: &[Literal]) {
         let terms = literals.into_iter();
         let args: Vec<u32> = terms.map(|l| m.term(kind::CUSTOM_LITERAL, l)).collect();
         let [start, count] = m.list(&args);
-        let premise = m.term(kind::BUILT_IN, [0, start, count]);
+        let premise = m.term(kind::BUILT_IN, [FIRST_NAME, start, count]);
         m.context(0, premise);
     }
 }

@@ -131,6 +131,7 @@ pub fn long_parts() -> Maker {
     let part = "x".repeat(APART - 1);
     let whole = [&part[..]; LONG / APART].join(COLON);
     let mut literals = Vec::new();
+    // In the middle stands a colon.
     let texts = [0, whole.len() / 2 + 1, whole.len() - 1].map(|place| changed(&whole, place));
     for text in [&[whole], &texts[..]].concat() {
         let first = m.letters.len() as u32;

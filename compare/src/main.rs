@@ -6,6 +6,7 @@
 
 mod bench;
 mod bench_listing;
+mod bench_literals;
 mod bench_nodes;
 mod bench_sessions;
 mod bench_table;
