@@ -1,13 +1,14 @@
 //! Speed of a move and an ask as a ratio to the reference, both measured in
-//! this run: cost against path length, term count and literal count.
+//! this run: cost against path length and term count.
 
+use crate::bench_literals;
 use crate::bench_table::TERMS;
 use crate::library::book_test;
-use crate::made_costly::{alike, explained_often};
+use crate::made_costly::explained_often;
 use crate::made_terms::{flat, nest_of};
 use crate::session_library::{self as library, Answer, Buffers};
 use crate::timing::{fastest, percent, ratio};
-use leskofar_reference::book::{kind, BOOL, INT};
+use leskofar_reference::book::INT;
 use leskofar_reference::book_test::SCRATCH_SIZE;
 use leskofar_reference::fresh_image;
 use leskofar_reference::maker::Maker;
@@ -16,25 +17,21 @@ use std::hint::black_box;
 
 /// Up to the deepest node.
 const DEPTHS: [usize; 4] = [8, 16, 32, 64];
-/// Up to nearly as many.
-const LITERALS: [usize; 4] = [125, 250, 500, 1000];
 /// Entries of ExplainedBy and Explains, up to as many as a book can have.
 const ENTRIES: [usize; 4] = [256, 512, 1024, 2048];
-/// Letters of literals whose names differ late.
-const ALIKE: [usize; 3] = [512, 1024, 2048];
 /// The names of the arguments of flat terms.
 const LETTERS: usize = 9;
 /// The nest that costs a call for each term.
 const NEST: &str = "bodies before a pattern";
 /// More than any text here has.
-const ROOM: usize = 1 << 23;
+const ROOM: usize = 1 << 24;
 
 /// A move, or an ask where there is a goal.
 #[derive(Clone, Copy)]
-struct Travel {
-    from: u32,
-    to: u32,
-    goal: Option<u32>,
+pub struct Travel {
+    pub from: u32,
+    pub to: u32,
+    pub goal: Option<u32>,
 }
 
 impl Travel {
@@ -87,7 +84,7 @@ impl Desk {
 }
 
 /// Prints a row of the table.
-fn bench(name: &str, size: usize, m: &Maker, travel: Travel) {
+pub fn bench(name: &str, size: usize, m: &Maker, travel: Travel) {
     let book = m.book();
     let [mut first, mut second, mut third] = [(); 3].map(|()| Desk::new(&book, travel.from));
     let answer = travel.on_library(&book, &mut first.begin());
@@ -141,25 +138,8 @@ fn path(depth: usize) -> Maker {
     m
 }
 
-/// A node whose term has so many literals, each of another name.
-fn literals(count: usize) -> Maker {
-    let types = [BOOL, INT];
-    let mut m = Maker::default();
-    let names: Vec<u32> = (0..count.div_ceil(types.len()))
-        .map(|name| m.name(&format!("literal{name:04}")))
-        .collect();
-    let args: Vec<u32> = names
-        .iter()
-        .flat_map(|name| types.map(|typ| [*name, typ]))
-        .take(count)
-        .map(|literal| m.term(kind::CUSTOM_LITERAL, literal))
-        .collect();
-    m.built_in("and", &args);
-    m
-}
-
 /// From the root to a node with the last term.
-fn bench_move(name: &str, size: usize, mut m: Maker) {
+pub fn bench_move(name: &str, size: usize, mut m: Maker) {
     let last = m.terms.len() as u32 - 1;
     let to = m.context(0, last);
     let travel = Travel {
@@ -171,7 +151,7 @@ fn bench_move(name: &str, size: usize, mut m: Maker) {
 }
 
 /// To a node with the last term, and that term asked.
-fn bench_last_term(name: &str, size: usize, mut m: Maker) {
+pub fn bench_last_term(name: &str, size: usize, mut m: Maker) {
     let last = m.terms.len() as u32 - 1;
     let node = m.context(0, last);
     for (call, from, to, goal) in [
@@ -210,16 +190,7 @@ pub fn run() {
     for terms in TERMS {
         bench_last_term("nested terms", terms, nest_of(NEST, terms));
     }
-    for count in LITERALS {
-        bench_last_term("literals", count, literals(count));
-    }
-    for letters in ALIKE {
-        bench_move(
-            "literals that differ late, by letters",
-            letters,
-            alike(letters),
-        );
-    }
+    bench_literals::rows();
     for entries in ENTRIES {
         bench_move(
             "axioms listed often, by entries",

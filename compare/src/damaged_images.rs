@@ -18,7 +18,7 @@ const TYPES: Range<usize> = places(LEVELS_AT, Section::Types);
 const CONSTANTS: Range<usize> = places(TYPES.end, Section::Constants);
 pub const FUNCTIONS: Range<usize> = places(CONSTANTS.end, Section::Functions);
 pub const AXIOMS: Range<usize> = places(FUNCTIONS.end, Section::Axioms);
-const LITERALS: Range<usize> = places(AXIOMS.end, Section::Terms);
+pub const LITERALS: Range<usize> = places(AXIOMS.end, Section::Terms);
 
 const fn places(start: usize, section: Section) -> Range<usize> {
     start..start + section.most()

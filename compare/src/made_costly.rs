@@ -70,12 +70,11 @@ fn add_nest(m: &mut Maker, terms: usize) -> u32 {
     whole
 }
 
-/// As many names as there can be, nearly, each so many letters long, which
-/// differ in their last letters; two literals of each.
-pub fn alike(letters: usize) -> Maker {
+/// So many names, each so many letters long, which differ in their last
+/// letters; two literals of each. One name goes to the operator.
+pub fn alike(letters: usize, names: usize) -> Maker {
     let mut m = Maker::default();
     let op = m.name("and");
-    let names = Section::Names.most() - 1;
     let first = m.letters.len();
     m.letters.extend(vec![b'a'; letters + names]);
     // A name that starts one letter later has the only other letter one place earlier.
@@ -94,6 +93,44 @@ pub fn alike(letters: usize) -> Maker {
         .into_iter()
         .map(|l| m.term(kind::CUSTOM_LITERAL, l))
         .collect();
+    let [start, count] = m.list(&args);
+    m.term(kind::BUILT_IN, [op, start, count]);
+    m
+}
+
+/// Lengths of types' names, and types of each length: together as many as
+/// there can be.
+const SPLITS: usize = 16;
+const TYPES_OF_A_LENGTH: usize = 4;
+
+/// So many literals, whose text and type have so many letters together, by
+/// different splits: all whole names have one length, and differ late. The
+/// texts overlap.
+pub fn split_alike(letters: usize, literals: usize) -> Maker {
+    let mut m = Maker::default();
+    let op = m.name("and");
+    let mut by_split = Vec::new();
+    for length in 1..=SPLITS {
+        let types: Vec<u32> = (0..TYPES_OF_A_LENGTH)
+            .map(|last| m.user_type(&format!("{last:a>length$}")))
+            .collect();
+        by_split.push((letters - length, types));
+    }
+    let first = m.letters.len();
+    m.letters.extend(vec![b'a'; letters + SPLITS]);
+    // The only other letter is in every text, and in each at another place.
+    m.letters[first + letters - SPLITS - 1] = b'b';
+    let mut args = Vec::new();
+    for start in first..first + SPLITS {
+        for (length, types) in &by_split {
+            let name = m.names.len() as u32;
+            m.names.push([start as u32, *length as u32]);
+            let terms = types.iter();
+            args.extend(terms.map(|typ| m.term(kind::CUSTOM_LITERAL, [name, *typ])));
+        }
+    }
+    args.truncate(literals);
+    m.terms.truncate(literals);
     let [start, count] = m.list(&args);
     m.term(kind::BUILT_IN, [op, start, count]);
     m

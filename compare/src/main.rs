@@ -6,6 +6,7 @@
 
 mod bench;
 mod bench_listing;
+mod bench_literals;
 mod bench_nodes;
 mod bench_sessions;
 mod bench_table;
@@ -18,10 +19,16 @@ mod listing;
 mod listing_limits;
 mod listing_shapes;
 mod lists;
+mod literal_books;
+mod literal_shapes;
+mod literal_tours;
 mod made_books;
 mod made_costly;
+mod made_literals;
+mod made_names;
 mod made_rules;
 mod made_sessions;
+mod made_splits;
 mod made_terms;
 mod nodes;
 mod nodes_books;
@@ -42,6 +49,8 @@ mod seen;
 mod session_books;
 mod session_images;
 mod session_library;
+mod session_literals;
+mod session_names;
 mod session_shapes;
 mod session_tours;
 mod sessions;
@@ -72,6 +81,8 @@ fn main() -> ExitCode {
     sessions::run(&mut tally);
     session_images::run(&mut tally);
     session_tours::run(&mut tally);
+    session_literals::run(&mut tally);
+    session_names::run(&mut tally);
     nodes::run(&mut tally);
     script::run(&mut tally);
     if tally.close() {
