@@ -6,7 +6,7 @@ use native.Mathlib.Numerals.{add-one}
 use mathlib.Core.Path.{_≡_, refl, sym, ap, _∙_}
 use mathlib.Core.Bool.{Bool, true, false, not, _&&_, _||_, false≢true}
 use mathlib.Core.List.{List, [], _∷_}
-use mathlib.Core.Option.{Option, none, some, Option·map}
+use mathlib.Core.Option.{Option, none, some, Option·map, Option·some-injective, Option·none-ne-some, Option·some-ne-none}
 use lib.Dec.{eqb}
 use lib.ListN.{length, getD, take, drop}
 use Rattle.basics.specs.Text.{Text}
@@ -15,20 +15,10 @@ use Rattle.book.specs.RExpr.{Literal}
 use Rattle.rsolver.specs.LevelState.{hasName, nameIn}
 use Rattle.literals.specs.Search.{namedAt, here, firstNamed, literalCount, goneThrough, isSome, Searched, searched, search, isFound}
 
-some-eq : {j k : ℕ} → _≡_ {A = Option ℕ} (some j) (some k) → j ≡ k
-some-eq {j} e = ap (λ (o : Option ℕ). from o) e
-  where
-    from : Option ℕ → ℕ
-    from none = j
-    from (some k) = k
-
-none-some : {k : ℕ} → _≡_ {A = Option ℕ} none (some k) → ⊥
-none-some e = false≢true (ap isSome e)
-
 -- a place behind the first
 behind : (r : Option ℕ) (k : ℕ) → Option·map suc r ≡ some k → (j : ℕ) × (r ≡ some j) × (k ≡ suc j)
-behind none k e = absurd (none-some e)
-behind (some j) k e = (j, refl, sym (some-eq e))
+behind none k e = absurd (Option·none-ne-some _ e)
+behind (some j) k e = (j, refl, sym (Option·some-injective (suc j) k e))
 
 module _ (name : Text) where
   nowhere : (ls : List (Option Literal)) (levels : List ℕ) (k : ℕ) → length ls ≤ k → namedAt name ls levels k ≡ false
@@ -41,19 +31,19 @@ module _ (name : Text) where
   -- the answer is a declared literal of that name
   pub found-declares : (ls : List (Option Literal)) (levels : List ℕ) (k : ℕ) → firstNamed name ls levels ≡ some k → namedAt name ls levels k ≡ true
   unfolding firstNamed namedAt
-  found-declares [] levels k e = absurd (none-some e)
-  found-declares (l ∷ ls) [] k e = absurd (none-some e)
+  found-declares [] levels k e = absurd (Option·none-ne-some _ e)
+  found-declares (l ∷ ls) [] k e = absurd (Option·none-ne-some _ e)
   found-declares (l ∷ ls) (n ∷ levels) k e = at (found-declares ls levels) (not (eqb n 0) && hasName name l) refl e
     where
       at : ((j : ℕ) → firstNamed name ls levels ≡ some j → namedAt name ls levels j ≡ true) → (t : Bool) → (not (eqb n 0) && hasName name l) ≡ t → here t (firstNamed name ls levels) ≡ some k → namedAt name (l ∷ ls) (n ∷ levels) k ≡ true
-      at up true q f = rw (sym (some-eq f)) q
+      at up true q f = rw (sym (Option·some-injective 0 k f)) q
       at up false q f = let (j, r, i) = behind (firstNamed name ls levels) k f in rw i (up j r)
 
   -- none below it is
   pub found-lowest : (ls : List (Option Literal)) (levels : List ℕ) (k : ℕ) → firstNamed name ls levels ≡ some k → (j : ℕ) → j < k → namedAt name ls levels j ≡ false
   unfolding firstNamed namedAt
-  found-lowest [] levels k e j h = absurd (none-some e)
-  found-lowest (l ∷ ls) [] k e j h = absurd (none-some e)
+  found-lowest [] levels k e j h = absurd (Option·none-ne-some _ e)
+  found-lowest (l ∷ ls) [] k e j h = absurd (Option·none-ne-some _ e)
   found-lowest (l ∷ ls) (n ∷ levels) k e j h = at (found-lowest ls levels) (not (eqb n 0) && hasName name l) refl e j h
     where
       below : ((i : ℕ) → firstNamed name ls levels ≡ some i → (j : ℕ) → j < i → namedAt name ls levels j ≡ false) → (not (eqb n 0) && hasName name l) ≡ false → (i : ℕ) → firstNamed name ls levels ≡ some i → k ≡ suc i
@@ -63,7 +53,7 @@ module _ (name : Text) where
 
       at : ((i : ℕ) → firstNamed name ls levels ≡ some i → (j : ℕ) → j < i → namedAt name ls levels j ≡ false) → (t : Bool) → (not (eqb n 0) && hasName name l) ≡ t → here t (firstNamed name ls levels) ≡ some k
           → (j : ℕ) → j < k → namedAt name (l ∷ ls) (n ∷ levels) j ≡ false
-      at up true q f j m = let z : 0 ≡ k = some-eq f in absurd (omega arith)
+      at up true q f j m = let z : 0 ≡ k = Option·some-injective 0 k f in absurd (omega arith)
       at up false q f j m = let (i, r, s) = behind (firstNamed name ls levels) k f in below up q i r s j m
 
   -- the lowest such term is the answer
@@ -88,8 +78,8 @@ module _ (name : Text) where
     where
       at : (firstNamed name ls levels ≡ none → (k : ℕ) → namedAt name ls levels k ≡ false) → (t : Bool) (r : Option ℕ) → (not (eqb n 0) && hasName name l) ≡ t → firstNamed name ls levels ≡ r → here t r ≡ none
           → (k : ℕ) → namedAt name (l ∷ ls) (n ∷ levels) k ≡ false
-      at up true r q i f k = absurd (none-some (sym f))
-      at up false (some j) q i f k = absurd (none-some (sym f))
+      at up true r q i f k = absurd (Option·some-ne-none _ f)
+      at up false (some j) q i f k = absurd (Option·some-ne-none _ f)
       at up false none q i f zero = q
       at up false none q i f (suc k) = up i k
 
