@@ -1,8 +1,8 @@
 -- The name of a literal of the book, and its parts.
-use Prim.Native.Nat.{ℕ, zero, suc, _+_, _*_, _-_, _<_, _≤_}
+use Prim.Native.Nat.{ℕ, zero, suc, _+_, _-_, _<_}
 use native.Mathlib.Omega.{arith}
 use mathlib.Core.Path.{_≡_, refl, sym, ap, _∙_}
-use mathlib.Core.Bool.{false}
+use mathlib.Core.Bool.{Bool, false, _&&_}
 use lib.ListN.{length, drop, length-drop}
 use lib.Seq.{length-take-le}
 use Rattle.basics.specs.Text.{Text, ascii, same}
@@ -13,7 +13,7 @@ use Rattle.book_test.specs.Promise.{Promise, GoodLiteral}
 use Rattle.solver_expr.specs.SolverExpr.{typeToString}
 use Rattle.solver_expr.specs.Lowering.{literalName}
 use Rattle.literal_names.specs.Names.{barred}
-use Rattle.literal_names.proofs.Pairs.{longer, one-type}
+use Rattle.literal_names.proofs.Pairs.{longer, one-colon, one-type}
 
 module _ (b : Book) where
   pub name-is : (t : ℕ) {s typ : Text} → s ≡ nameText b (field b terms t 1) → typ ≡ typeToString (typeOf b (field b terms t 2)) → barred s typ ≡ literalName (literalOf b t)
@@ -75,3 +75,7 @@ module _ (b : Book) where
 
   pub by-length : (k : ℕ) (s typ : Text) → (length s + length typ ≡ length (nameText b (field b terms k 1)) + length (typeToString (typeOf b (field b terms k 2))) → ⊥) → false ≡ same (barred s typ) (literalName (literalOf b k))
   by-length k s typ h = longer s typ _ _ h ∙ ap (same (barred s typ)) (name-is k refl refl)
+
+  -- the colons stand at one place, and what is before them differs
+  pub by-front : (k : ℕ) (s typ : Text) → length s ≡ length (nameText b (field b terms k 1)) → same s (nameText b (field b terms k 1)) ≡ false → false ≡ same (barred s typ) (literalName (literalOf b k))
+  by-front k s typ e h = sym (ap (same (barred s typ)) (sym (name-is k refl refl)) ∙ one-colon s typ _ _ e ∙ ap (λ (t : Bool). t && same typ (typeToString (typeOf b (field b terms k 2)))) h)

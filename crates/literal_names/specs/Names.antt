@@ -1,5 +1,5 @@
 -- Names of literals.
-use Prim.Native.Nat.{ℕ, _<_}
+use Prim.Native.Nat.{_<_}
 use mathlib.Core.Path.{_≡_}
 use mathlib.Core.List.{_∷_, _++_}
 use Rattle.basics.specs.Text.{Text, ascii}

@@ -62,7 +62,7 @@ fn same_long(a: &[u8], b: &[u8]) -> bool
     true
 }
 
-// Two texts of one length, of any letters.
+// Two texts of one length, letter by letter.
 fn same_short(a: &[u8], b: &[u8]) -> bool
     requires { ⌜ length (now a) ≡ length (now b) ⌝ }
     ensures { λ r. ⌜ r ≡ same (now (a .entry)) (now (b .entry)) ⌝ }

@@ -4,6 +4,7 @@ ghost use Prim.Native.Nat.{_+_, _<_};
 ghost use lib.ListN.{length};
 ghost use Rattle.basics.specs.Text.{same};
 ghost use Rattle.book.specs.Book.{names, types, terms, size, field, nameText, userTypes};
+ghost use Rattle.book.specs.Laid.{Reads};
 ghost use Rattle.book.specs.Decode.{typeOf, literalOf};
 ghost use Rattle.book_test.specs.Promise.{Promise, GoodLiteral};
 ghost use Rattle.solver_expr.specs.SolverExpr.{typeToString};
@@ -100,7 +101,7 @@ fn same_name(book: &[u8], n: usize, s: &[u8], m: usize) -> bool
 // Letters of a type's text.
 fn type_length(book: &[u8], typ: usize) -> usize
     requires { ⌜ Promise (now book) × (typ < userTypes + size (now book) types) ⌝ }
-    ensures { λ r. ⌜ (r ≡ length (typeToString (typeOf (now (book .entry)) typ))) × (r < 4294967296) ⌝ }
+    ensures { λ r. ⌜ Reads (length (typeToString (typeOf (now (book .entry)) typ))) r ⌝ }
 {
     match typ {
         BOOL => BOOL_LENGTH,
@@ -128,7 +129,25 @@ fn name_length(book: &[u8], k: usize) -> usize
     s + type_length(book, field(book, TERMS, k, LITERAL_TYPE))
 }
 
-// The same as has_name, for a name whose numbers are known: those of one type are compared without it, and lengths by the records.
+// As has_name, where the numbers are known and those of the types differ: lengths first, then s if both colons stand at one place.
+fn has_name_of_other_type(book: &[u8], k: usize, sought: Sought, s: &[u8], typ: &[u8]) -> bool
+    requires { ⌜ Promise (now book) × (k < size (now book) terms) × GoodLiteral (now book) k × Seeks (now book) sought (now s) (now typ) ⌝ }
+    ensures { λ r. ⌜ r ≡ same (barred (now (s .entry)) (now (typ .entry))) (literalName (literalOf (now (book .entry)) k)) ⌝ }
+{
+    if s.len() + typ.len() != name_length(book, k) {
+        return false;
+    }
+    let n = field(book, TERMS, k, LITERAL_NAME);
+    if field(book, NAMES, n, NAME_LENGTH) != s.len() {
+        return has_name(book, k, s, typ);
+    }
+    if !same_name(book, sought.name, s, n) {
+        return false;
+    }
+    has_name(book, k, s, typ)
+}
+
+// As has_name, where the numbers are known. If the types have one number, only s is compared.
 pub fn agrees(book: &[u8], k: usize, sought: Sought, s: &[u8], typ: &[u8]) -> bool
     requires { ⌜ Promise (now book) × (k < size (now book) terms) × GoodLiteral (now book) k × Seeks (now book) sought (now s) (now typ) ⌝ }
     ensures { λ r. ⌜ r ≡ same (barred (now (s .entry)) (now (typ .entry))) (literalName (literalOf (now (book .entry)) k)) ⌝ }
@@ -136,8 +155,5 @@ pub fn agrees(book: &[u8], k: usize, sought: Sought, s: &[u8], typ: &[u8]) -> bo
     if field(book, TERMS, k, LITERAL_TYPE) == sought.typ {
         return same_name(book, sought.name, s, field(book, TERMS, k, LITERAL_NAME));
     }
-    if s.len() + typ.len() != name_length(book, k) {
-        return false;
-    }
-    has_name(book, k, s, typ)
+    has_name_of_other_type(book, k, sought, s, typ)
 }

@@ -35,6 +35,7 @@ pub struct Search {
     pub gone: usize,
 }
 
+// A term was found.
 fn is_found(r: Search) -> bool
     ensures { λ t. ⌜ t ≡ isFound (searchValue r) ⌝ }
 {

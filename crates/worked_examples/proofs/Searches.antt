@@ -5,7 +5,7 @@ use mathlib.Core.Option.{some}
 use mathlib.Core.Option as option
 use mathlib.Core.List.{List, [], _∷_, map}
 use lib.ListN.{drop}
-use Rattle.basics.specs.Text.{Text, ascii}
+use Rattle.basics.specs.Text.{ascii}
 use Rattle.book.specs.Book.{Book}
 use Rattle.book.specs.Program.{path}
 use Rattle.book.specs.Decode.{literalOf, program}

@@ -1,10 +1,8 @@
 use Rattle.basics.specs.Text.{Text, same, ascii}
 use Rattle.book.specs.Decode.{literalOf}
 use Rattle.solver_expr.specs.Lowering.{isTag}
-use Prim.Native.Nat.{ℕ}
 use mathlib.Core.Path.{ap, _∙_}
 use Rattle.records.proofs.Readers.{named-term}
-use native.Mathlib.Omega.{arith}
 use borrow.Author.Needs.{needs}
 use Rattle.literals.proofs.is_tag.Statement.{statement}
 use Rattle.literals.proofs.is_tag.Tie as tie

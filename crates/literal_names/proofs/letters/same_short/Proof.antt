@@ -1,7 +1,7 @@
 use Prim.Native.Nat.{ℕ, _≤_, _<_, _-_}
 use lib.ListN.{length, getD}
 use mathlib.Core.Path.{_≡_}
-use borrow.Author.Count.{below-none, below-more}
+use borrow.Author.Count.{below-more}
 use native.Mathlib.Omega.{arith}
 use Rattle.literal_names.proofs.Equal.{same-byte, same-bytes}
 use borrow.Author.Needs.{needs}

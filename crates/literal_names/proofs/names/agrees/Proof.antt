@@ -1,13 +1,12 @@
 use Prim.Native.Nat.{ℕ}
 use native.Mathlib.Omega.{arith}
-use mathlib.Core.Path.{_≡_, sym, ap, _∙_}
+use mathlib.Core.Path.{sym, ap, _∙_}
 use Rattle.basics.specs.Text.{same}
 use Rattle.book.specs.Book.{nameText}
 use Rattle.book.specs.Decode.{typeOf}
 use Rattle.solver_expr.specs.SolverExpr.{typeToString}
 use Rattle.records.proofs.Readers.{reads-term}
-use Rattle.literal_names.proofs.Naming.{by-name, by-length}
-use borrow.Author.Needs.{needs}
+use Rattle.literal_names.proofs.Naming.{by-name}
 use Rattle.literal_names.proofs.names.agrees.Statement.{statement}
 use Rattle.literal_names.proofs.names.agrees.Tie as tie
 
@@ -23,17 +22,11 @@ same-name-requires c κs = (c .before .before .before .before .before .before .b
 returns : tie.Need-returns
 returns c = c .same-name .ensures ∙ ap (λ (n : ℕ). same (c .before .before .before .before .before .before .before .before .args .s .now) (nameText (c .before .before .before .before .before .before .before .before .args .book .now) n)) (c .before .field2 .ensures .is) ∙ sym (by-name _ (c .before .before .before .before .before .before .before .before .args .k) (c .before .before .before .before .before .before .before .before .args .s .now) (c .before .before .before .before .before .before .before .before .args .typ .now) (c .before .before .before .before .before .before .before .before .pre .3 .type ∙ ap (λ (n : ℕ). typeToString (typeOf (c .before .before .before .before .before .before .before .before .args .book .now) n)) (sym (c .before .before .if1 .taken) ∙ c .before .before .before .before .field .ensures .is)))
 
-name-length-requires : tie.Need-name-length-requires
-name-length-requires c κs = (c .before .before .before .before .before .before .pre .0, c .before .before .before .before .before .before .pre .1, c .before .before .before .before .before .before .pre .2)
+has-name-of-other-type-requires : tie.Need-has-name-of-other-type-requires
+has-name-of-other-type-requires c κs = c .before .before .before .before .before .before .pre
 
 returns-2 : tie.Need-returns-2
-returns-2 c = by-length _ (c .before .before .before .before .before .before .before .before .args .k) (c .before .before .before .before .before .before .before .before .args .s .now) (c .before .before .before .before .before .before .before .before .args .typ .now) (λ e. c .if2 .taken (e ∙ sym (c .before .name-length .ensures)))
-
-has-name-requires : tie.Need-has-name-requires
-has-name-requires c κs = (c .before .before .before .before .before .before .before .before .pre .0, c .before .before .before .before .before .before .before .before .pre .1, c .before .before .before .before .before .before .before .before .pre .2)
-
-returns-3 : tie.Need-returns-3
-returns-3 c = c .has-name .ensures
+returns-2 c = c .has-name-of-other-type .ensures
 
 pub agrees-spec : {M : Type 1} → statement M
 agrees-spec =
@@ -43,8 +36,5 @@ agrees-spec =
     field-requires-2
     same-name-requires
     returns
-    (λ c. search needs)
-    name-length-requires
-    returns-2
-    has-name-requires
-    returns-3)
+    has-name-of-other-type-requires
+    returns-2)

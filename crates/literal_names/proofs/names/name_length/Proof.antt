@@ -1,7 +1,6 @@
 use native.Mathlib.Omega.{arith}
 use Rattle.records.proofs.Readers.{reads-term}
 use Rattle.literal_names.proofs.Naming.{reads-record, lengths}
-use borrow.Author.Needs.{needs}
 use Rattle.literal_names.proofs.names.name_length.Statement.{statement}
 use Rattle.literal_names.proofs.names.name_length.Tie as tie
 
@@ -18,10 +17,10 @@ type-length-requires : tie.Need-type-length-requires
 type-length-requires c κs = (c .before .before .before .before .pre .0, omega (arith, c .field3 .ensures .is, c .before .before .before .before .pre .2 .typ))
 
 add-result : tie.Need-add-result
-add-result c = omega (arith, c .before .before .field2 .ensures .small, c .type-length .ensures .1)
+add-result c = omega (arith, c .before .before .field2 .ensures .small, c .type-length .ensures .small)
 
 returns : tie.Need-returns
-returns c = lengths _ (c .before .before .before .before .before .pre .0) _ (c .before .before .before .before .before .pre .2) (c .before .before .before .field .ensures .is) (c .before .before .field2 .ensures .is) (c .before .field3 .ensures .is) (c .type-length .ensures .0)
+returns c = lengths _ (c .before .before .before .before .before .pre .0) _ (c .before .before .before .before .before .pre .2) (c .before .before .before .field .ensures .is) (c .before .before .field2 .ensures .is) (c .before .field3 .ensures .is) (c .type-length .ensures .is)
 
 pub name-length-spec : {M : Type 1} → statement M
 name-length-spec =

@@ -1,6 +1,6 @@
 use native.Mathlib.Omega.{arith}
 use mathlib.Core.Bool.{Bool, _&&_}
-use mathlib.Core.Path.{_≡_, sym, ap, _∙_}
+use mathlib.Core.Path.{sym, ap, _∙_}
 use Rattle.basics.specs.Text.{same}
 use Rattle.basics.proofs.Bool.{passed, failed}
 use Rattle.literal_names.proofs.Equal.{same-sym}

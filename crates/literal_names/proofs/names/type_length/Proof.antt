@@ -1,9 +1,8 @@
 use native.Mathlib.Omega.{arith}
-use mathlib.Core.Path.{_≡_, sym, ap, _∙_}
+use mathlib.Core.Path.{ap}
 use lib.ListN.{length}
 use Rattle.records.proofs.Readers.{reads-type}
 use Rattle.literal_names.proofs.Naming.{string-bool, string-int, user-type, reads-record, user-length}
-use borrow.Author.Needs.{needs}
 use Rattle.literal_names.proofs.names.type_length.Statement.{statement}
 use Rattle.literal_names.proofs.names.type_length.Tie as tie
 
@@ -17,13 +16,13 @@ field-requires-2 : tie.Need-field-requires-2
 field-requires-2 c κs = reads-record _ (c .before .before .before .pre .0) 1 (omega arith) (omega (arith, c .field .ensures .is, c .before .before .before .pre .0 .type-name _ (user-type _ (c .before .before .before .pre .1) (c .before .match .rest .0 .1) (c .before .match .rest .1))))
 
 returns : tie.Need-returns
-returns c = (ap length (string-bool _ (c .match .keys1)), omega arith)
+returns c = record { is = ap length (string-bool _ (c .match .keys1)); small = omega arith }
 
 returns-2 : tie.Need-returns-2
-returns-2 c = (ap length (string-int _ (c .match .keys2)), omega arith)
+returns-2 c = record { is = ap length (string-int _ (c .match .keys2)); small = omega arith }
 
 returns-3 : tie.Need-returns-3
-returns-3 c = (user-length _ (c .before .before .before .before .pre .0) _ (c .before .before .before .before .pre .1) (c .before .before .match .rest .0 .1) (c .before .before .match .rest .1) (c .before .field .ensures .is) (c .field2 .ensures .is), c .field2 .ensures .small)
+returns-3 c = record { is = user-length _ (c .before .before .before .before .pre .0) _ (c .before .before .before .before .pre .1) (c .before .before .match .rest .0 .1) (c .before .before .match .rest .1) (c .before .field .ensures .is) (c .field2 .ensures .is); small = c .field2 .ensures .small }
 
 pub type-length-spec : {M : Type 1} → statement M
 type-length-spec =

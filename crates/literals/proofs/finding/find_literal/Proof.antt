@@ -8,7 +8,6 @@ use Rattle.book.specs.Book.{terms, size}
 use Rattle.literal_names.specs.Names.{barred}
 use Rattle.literals.specs.Literals.{declaresName}
 use Rattle.literals.proofs.Going.{goneBefore, none-gone, gone-next, gone-most, found-here, found-nowhere}
-use borrow.Author.Needs.{needs}
 use Rattle.literals.proofs.finding.find_literal.Statement.{statement}
 use Rattle.literals.proofs.finding.find_literal.Tie as tie
 

@@ -2,7 +2,6 @@ use native.Mathlib.Omega.{arith}
 use Rattle.records.proofs.Readers.{reads-term}
 use Rattle.book_test.proofs.TermKinds.{good-literal}
 use Rattle.literals.proofs.Looking.{counts, counts-not, undeclared, no-literal, by-name}
-use borrow.Author.Needs.{needs}
 use Rattle.literals.proofs.finding.look.Statement.{statement}
 use Rattle.literals.proofs.finding.look.Tie as tie
 
