@@ -25,20 +25,32 @@ pub struct Seen {
     pub here: bool,
 }
 
-// The level is looked at before the name: most literals are told by it.
+// How many literals term k is: one or none.
+fn literals_at(book: &[u8], k: usize) -> usize
+    requires { ⌜ Promise (now book) × (k < size (now book) terms) ⌝ }
+    ensures { λ r. ⌜ r ≡ literalCount (literalAt (now (book .entry)) k ∷ []) ⌝ }
+{
+    if field(book, TERMS, k, KIND) == CUSTOM_LITERAL {
+        return 1;
+    }
+    0
+}
+
+// The level is looked at before the record: where nobody reads the count, the compiler leaves out the records of what is not declared.
 fn look(book: &[u8], k: usize, sought: Sought, s: &[u8], typ: &[u8], levels: &[u8]) -> Seen
     requires { ⌜ Promise (now book) × (k < size (now book) terms) × Seeks (now book) sought (now s) (now typ) × (length (now levels) ≡ levelCount) ⌝ }
     ensures { λ r. ⌜ (r .literals ≡ literalCount (literalAt (now (book .entry)) k ∷ [])) × (r .here ≡ declaresName (now (book .entry)) (barred (now (s .entry)) (now (typ .entry))) (now (levels .entry)) k) ⌝ }
 {
-    if field(book, TERMS, k, KIND) != CUSTOM_LITERAL {
+    if levels[LITERAL_PLACES + k] == 0 {
+        let literals = literals_at(book, k);
         return Seen {
-            literals: 0,
+            literals: literals,
             here: false,
         };
     }
-    if levels[LITERAL_PLACES + k] == 0 {
+    if field(book, TERMS, k, KIND) != CUSTOM_LITERAL {
         return Seen {
-            literals: 1,
+            literals: 0,
             here: false,
         };
     }

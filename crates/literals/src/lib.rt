@@ -8,6 +8,7 @@ ghost use Rattle.book_test.specs.Promise.{Promise, GoodLiteral};
 ghost use Rattle.solver_expr.specs.Lowering.{isTag, literalName};
 ghost use Rattle.rsolver.specs.LevelState.{literalPlaces, levelCount, nameIn};
 ghost use Rattle.levels.specs.Did.{Ready, Did};
+ghost use Rattle.literal_names.specs.Names.{barred, Seeks};
 ghost use Rattle.literals.specs.Literals.{newLiteralStep, literalStep};
 ghost use Rattle.literals.specs.Search.{isFound, searchValue};
 use book::field;
@@ -46,6 +47,14 @@ fn is_found(r: Search) -> bool
     }
 }
 
+// The name is declared. The search has one caller, in which the compiler sees that its count is not read.
+fn is_declared(book: &[u8], sought: Sought, s: &[u8], typ: &[u8], levels: &[u8]) -> bool
+    requires { ⌜ Promise (now book) × Seeks (now book) sought (now s) (now typ) × (length (now levels) ≡ levelCount) ⌝ }
+    ensures { λ r. ⌜ r ≡ nameIn (barred (now (s .entry)) (now (typ .entry))) (program (now (book .entry)) .literals) (drop literalPlaces (now (levels .entry))) ⌝ }
+{
+    is_found(find_literal(book, sought, s, typ, levels))
+}
+
 // The name of the literal that term t is, is declared.
 fn is_named(book: &[u8], t: usize, levels: &[u8]) -> bool
     requires { ⌜ Promise (now book) × (t < size (now book) terms) × GoodLiteral (now book) t × (length (now levels) ≡ levelCount) ⌝ }
@@ -59,15 +68,15 @@ fn is_named(book: &[u8], t: usize, levels: &[u8]) -> bool
         typ: typ,
     };
     match typ {
-        BOOL => is_found(find_literal(book, sought, s, b"bool", levels)),
-        INT => is_found(find_literal(book, sought, s, b"int", levels)),
-        USER_TYPES.. => is_found(find_literal(
+        BOOL => is_declared(book, sought, s, b"bool", levels),
+        INT => is_declared(book, sought, s, b"int", levels),
+        USER_TYPES.. => is_declared(
             book,
             sought,
             s,
             named(book, TYPES, typ - USER_TYPES, TYPE_NAME),
             levels,
-        )),
+        ),
     }
 }
 
