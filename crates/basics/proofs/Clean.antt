@@ -5,11 +5,10 @@ use mathlib.Core.Path.{_≡_, refl, ap, _∙_}
 use mathlib.Core.List.{List, [], _∷_, _++_}
 use mathlib.Core.Bool.{Bool, true, not, _&&_}
 use lib.Dec.{eqb}
-use lib.IntN.{ℤ, pos, negsuc}
 use lib.ListN.{getD, take}
 use borrow.Author.Tests.{ne-eqb}
 use Rattle.basics.specs.Text.{Text, newline}
-use Rattle.basics.specs.Basics.{int2StringNoLeadingZero, nat2String, int2String}
+use Rattle.basics.specs.Basics.{int2StringNoLeadingZero, nat2String}
 use Rattle.basics.proofs.Bool.{and-both, both-and}
 
 abbrev pub clean : Text → Bool
@@ -44,8 +43,3 @@ pub clean-nat : (x : ℕ) → Clean (nat2String x)
 unfolding nat2String
 clean-nat zero = refl
 clean-nat (suc n) = clean-digits (suc n) (suc n)
-
-pub clean-int : (x : ℤ) → Clean (int2String x)
-unfolding int2String
-clean-int (pos n) = clean-nat n
-clean-int (negsuc n) = clean-nat (suc n)

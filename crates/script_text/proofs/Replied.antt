@@ -35,7 +35,7 @@ unfolding Replied _>>_
 stays b (refused k) rest x = tt
 stays b (accepted u) rest x = x
 
-two-pops : (s : Session) → length (textOf (closed s Proved)) ≡ 12
+two-pops : (s : Session) → length (textOf (closed s Proved)) ≡ 16
 unfolding textOf closed script commandToString CMD_POP
 two-pops s = refl
 

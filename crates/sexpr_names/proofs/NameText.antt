@@ -3,10 +3,9 @@ use Prim.Native.Nat.{ℕ, zero, suc, _+_, _-_, _/_, _%_, _≤_, _<_, min}
 use native.Mathlib.Omega.{arith}
 use mathlib.Core.Path.{_≡_, refl, sym, ap, _∙_, subst}
 use mathlib.Core.List.{List, [], _∷_, _++_, append-assoc}
-use lib.IntN.{ℤ, pos, negsuc}
 use lib.ListN.{length, take, drop, length-append}
 use Rattle.basics.specs.Text.{Text, ascii}
-use Rattle.basics.specs.Basics.{int2StringNoLeadingZero, nat2String, int2String, int64}
+use Rattle.basics.specs.Basics.{int2StringNoLeadingZero, nat2String}
 use Rattle.basics.specs.Write.{MOST, Wrote}
 use Rattle.basics.proofs.Laws.{joined, wrote-then, wrote-as}
 use Rattle.book.specs.Book.{Book, names, types, terms, size, field, nameText}
@@ -86,6 +85,7 @@ unfolding wordText nameToString
 word-shown word.False = refl
 word-shown word.True = refl
 word-shown word.Not = refl
+word-shown word.Minus = refl
 word-shown word.Ite = refl
 word-shown word.Let = refl
 word-shown word.Forall = refl
@@ -100,23 +100,22 @@ unfolding nat2String int2StringNoLeadingZero
 nat-some zero = omega arith
 nat-some (suc n) = omega (arith, length-append (int2StringNoLeadingZero n (suc n / 10)) ((48 + suc n % 10) ∷ []))
 
-int-some : (z : ℤ) → 0 < length (int2String z)
-unfolding int2String
-int-some (pos n) = nat-some n
-int-some (negsuc n) = omega (arith, length-append (ascii "-") (nat2String (suc n)))
-
 module _ (b : Book) (tag : ℕ) {n : SName} {o o1 : List ℕ} {r : ℕ} where
   pub wrote-word : {w : Word} → n ≡ name.Word w → Wrote (wordText w) o o1 r → Wrote (nameToString (textOf b tag n)) o o1 r
   unfolding textOf
   wrote-word {w} e h = rw e (wrote-as (word-shown w) h)
 
-  pub wrote-name : {k : ℕ} → n ≡ name.Name k → Wrote (nameToString (nameText b k)) o o1 r → Wrote (nameToString (textOf b tag n)) o o1 r
+  pub wrote-operator : {k : ℕ} → n ≡ name.Operator k → Wrote (nameToString (nameText b k)) o o1 r → Wrote (nameToString (textOf b tag n)) o o1 r
   unfolding textOf
-  wrote-name e h = rw e h
+  wrote-operator e h = rw e h
 
-  pub wrote-int : {x : ℕ} → n ≡ name.Integer x → Wrote (int2String (int64 x)) o o1 r → Wrote (nameToString (textOf b tag n)) o o1 r
+  pub wrote-symbol : {k : ℕ} → n ≡ name.Symbol k → Wrote (nameToString (nameText b k)) o o1 r → Wrote (nameToString (textOf b tag n)) o o1 r
   unfolding textOf
-  wrote-int {x} e h = rw e (wrote-as (shown (int2String (int64 x)) (int-some (int64 x))) h)
+  wrote-symbol e h = rw e h
+
+  pub wrote-numeral : {x : ℕ} → n ≡ name.Numeral x → Wrote (nat2String x) o o1 r → Wrote (nameToString (textOf b tag n)) o o1 r
+  unfolding textOf
+  wrote-numeral {x} e h = rw e (wrote-as (shown (nat2String x) (nat-some x)) h)
 
   pub wrote-literal : {t : ℕ} → n ≡ name.Literal t → Wrote (literalName (literalOf b t)) o o1 r → Wrote (nameToString (textOf b tag n)) o o1 r
   unfolding textOf literalName nameToString
@@ -127,9 +126,13 @@ module _ (b : Book) (tag : ℕ) {n : SName} {o o1 : List ℕ} {r : ℕ} where
   wrote-tag e h = rw e (wrote-as (shown (nat2String tag) (nat-some tag)) h)
 
 module _ {b : Book} {n : SName} where
-  pub ready-name : {k : ℕ} → n ≡ name.Name k → ReadyName b n → Ready b names k
+  pub ready-operator : {k : ℕ} → n ≡ name.Operator k → ReadyName b n → Ready b names k
   unfolding FineName
-  ready-name e r = record { promise = r .promise; here = subst (FineName b) e (r .fine) }
+  ready-operator e r = record { promise = r .promise; here = subst (FineName b) e (r .fine) }
+
+  pub ready-symbol : {k : ℕ} → n ≡ name.Symbol k → ReadyName b n → Ready b names k
+  unfolding FineName
+  ready-symbol e r = record { promise = r .promise; here = subst (FineName b) e (r .fine) }
 
   pub ready-literal : {t : ℕ} → n ≡ name.Literal t → ReadyName b n → ReadyLiteral b t
   unfolding FineName

@@ -11,7 +11,6 @@ ghost use Rattle.sexpr_names.specs.Names.{ReadyName};
 use basics::clip;
 use basics::put;
 use basics::put_all;
-use basics::put_int;
 use basics::put_u64;
 use basics::sum;
 use book::field;
@@ -27,6 +26,7 @@ fn put_word(w: Word, out: &mut [u8]) -> usize
         Word::False => put_all(&SExpr::false_word(), out),
         Word::True => put_all(&SExpr::true_word(), out),
         Word::Not => put_all(&SExpr::not_word(), out),
+        Word::Minus => put_all(b"-", out),
         Word::Ite => put_all(b"ite", out),
         Word::Let => put_all(b"let", out),
         Word::Forall => put_all(b"forall", out),
@@ -108,8 +108,9 @@ pub fn name_to_string(book: &[u8], n: SName, tag: u64, out: &mut [u8]) -> usize
 {
     match n {
         SName::Word(w) => put_word(w, out),
-        SName::Name(k) => put_name(book, k, out),
-        SName::Integer(bits) => put_int(bits, out),
+        SName::Operator(k) => put_name(book, k, out),
+        SName::Symbol(k) => put_name(book, k, out),
+        SName::Numeral(x) => put_u64(x, out),
         SName::Literal(t) => put_literal(book, t, out),
         SName::Tag => put_u64(tag, out),
     }

@@ -39,16 +39,27 @@ module _ (b : Book) where
   negation-rest t (suc zero) r n = record { fine = r .fine; is = λ tag. refl }
   negation-rest t (suc (suc i)) r n = absurd (omega (arith, r .within))
 
+  -- (- n)
+  pub minus-head : (n : ℕ) {i : ℕ} {a : Part} → i ≡ 0 → a ≡ part.Known (value.S (name.Word word.Minus)) → Element b (row.Minus n) i a
+  unfolding rowOf atˢ partOf meaning textOf wordText FinePart Fine FineName
+  minus-head n e h = rw (e, h) (record { fine = tt; is = λ tag. refl })
+
+  pub minus-rest : (n i : ℕ) → ReadyPlace b (row.Minus n) i → (i ≡ 0 → ⊥) → Element b (row.Minus n) i (part.Known (value.S (name.Numeral n)))
+  unfolding rowOf rowLength atˢ partOf meaning textOf FinePart Fine FineName
+  minus-rest n zero r z = absurd (z refl)
+  minus-rest n (suc zero) r z = record { fine = tt; is = λ tag. refl }
+  minus-rest n (suc (suc i)) r z = absurd (omega (arith, r .within))
+
   -- (op args)
-  pub appl-head : (op t : ℕ) {i : ℕ} → ReadyPlace b (row.Appl op t) i → i ≡ 0 → Element b (row.Appl op t) i (part.Known (value.S (name.Name op)))
-  unfolding rowOf atˢ partOf meaning textOf FinePart Fine FineName FineRow
+  pub appl-head : (op : SName) (t : ℕ) {i : ℕ} → ReadyPlace b (row.Appl op t) i → i ≡ 0 → Element b (row.Appl op t) i (part.Known (value.S op))
+  unfolding rowOf atˢ partOf meaning FinePart Fine FineRow
   appl-head op t r e = rw e (record { fine = r .fine .operator; is = λ tag. refl })
 
-  pub appl-listed : (op t i : ℕ) {start : ℕ} → ReadyPlace b (row.Appl op t) i → (i ≡ 0 → ⊥) → start ≡ field b terms t 2 → Listed b start (i - 1)
+  pub appl-listed : (op : SName) (t i : ℕ) {start : ℕ} → ReadyPlace b (row.Appl op t) i → (i ≡ 0 → ⊥) → start ≡ field b terms t 2 → Listed b start (i - 1)
   unfolding rowLength FineRow
   appl-listed op t i r n e = record { promise = r .promise; here = omega (arith, r .within, r .fine .args .ends) }
 
-  pub appl-rest : (op t i : ℕ) {start x : ℕ} → ReadyPlace b (row.Appl op t) i → (i ≡ 0 → ⊥) → start ≡ field b terms t 2 → x ≡ field b lists (start + (i - 1)) 0
+  pub appl-rest : (op : SName) (t i : ℕ) {start x : ℕ} → ReadyPlace b (row.Appl op t) i → (i ≡ 0 → ⊥) → start ≡ field b terms t 2 → x ≡ field b lists (start + (i - 1)) 0
       → Element b (row.Appl op t) i (part.Term x)
   unfolding rowOf rowLength atˢ partOf FinePart FineRow
   appl-rest op t zero r n es ex = absurd (n refl)

@@ -36,6 +36,8 @@ const SECOND: usize = 1;
 // How many parts a row has, where its kind alone says that.
 const NEGATION_PARTS: usize = 2;
 
+const MINUS_PARTS: usize = 2;
+
 // An application: its operator, then its arguments.
 const OPERATOR_PARTS: usize = 1;
 
@@ -62,6 +64,7 @@ fn row_length(book: &[u8], p: SRow) -> usize
 {
     match p {
         SRow::Negation(_) => NEGATION_PARTS,
+        SRow::Minus(_) => MINUS_PARTS,
         SRow::Appl(_, t) => OPERATOR_PARTS + field(book, TERMS, t, ARGUMENTS_COUNT),
         SRow::Ite(_) => ITE_PARTS,
         SRow::Let(_) => LET_PARTS,
@@ -103,12 +106,23 @@ fn negation_part(book: &[u8], t: usize, i: usize) -> Part
     }
 }
 
-fn appl_part(book: &[u8], op: usize, t: usize, i: usize) -> Part
+fn minus_part(book: &[u8], n: u64, i: usize) -> Part
+    requires { ⌜ ReadyPlace (now book) (SRow.Minus n) i ⌝ }
+    ensures { λ r. ⌜ Element (now (book .entry)) (SRow.Minus n) i r ⌝ }
+{
+    if i == HEAD {
+        keyword(Word::Minus)
+    } else {
+        Part::Known(SExpr::S(SName::Numeral(n)))
+    }
+}
+
+fn appl_part(book: &[u8], op: SName, t: usize, i: usize) -> Part
     requires { ⌜ ReadyPlace (now book) (SRow.Appl op t) i ⌝ }
     ensures { λ r. ⌜ Element (now (book .entry)) (SRow.Appl op t) i r ⌝ }
 {
     if i == HEAD {
-        Part::Known(SExpr::S(SName::Name(op)))
+        Part::Known(SExpr::S(op))
     } else {
         Part::Term(entry(book, field(book, TERMS, t, ARGUMENTS), i - OPERATOR_PARTS))
     }
@@ -238,6 +252,7 @@ fn part_of(book: &[u8], p: SRow, i: usize) -> Part
 {
     match p {
         SRow::Negation(t) => negation_part(book, t, i),
+        SRow::Minus(n) => minus_part(book, n, i),
         SRow::Appl(op, t) => appl_part(book, op, t, i),
         SRow::Ite(t) => ite_part(book, t, i),
         SRow::Let(t) => let_part(book, t, i),

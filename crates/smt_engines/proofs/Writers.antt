@@ -84,11 +84,11 @@ module _ (b : Book) where
   unfolding script commandToString contextToString assumption
   assume-not-line t tag = end-line (ascii "(assert " ++ toString (negation (toSExpr (term b t) tag)) flat) (ascii ")")
 
-pub push-line : (0x28 ∷ 0x70 ∷ 0x75 ∷ 0x73 ∷ 0x68 ∷ 0x29 ∷ newline ∷ []) ≡ script (Push ∷ [])
+pub push-line : ascii "(push 1)" ++ (newline ∷ []) ≡ script (Push ∷ [])
 unfolding script commandToString CMD_PUSH
 push-line = refl
 
-pub pop-line : (0x28 ∷ 0x70 ∷ 0x6f ∷ 0x70 ∷ 0x29 ∷ newline ∷ []) ≡ script (Pop ∷ [])
+pub pop-line : ascii "(pop 1)" ++ (newline ∷ []) ≡ script (Pop ∷ [])
 unfolding script commandToString CMD_POP
 pop-line = refl
 

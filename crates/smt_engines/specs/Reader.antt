@@ -40,8 +40,8 @@ pub data Kind : Type 0 where
 
 unfoldable pub kind : Text → Kind
 kind line =
-    if same line (ascii "(push)") then pushes
-    else if same line (ascii "(pop)") then pops
+    if same line (ascii "(push 1)") then pushes
+    else if same line (ascii "(pop 1)") then pops
     else if same line (ascii "(check-sat)") || same line (ascii "(get-model)") then asks
     else joins
 

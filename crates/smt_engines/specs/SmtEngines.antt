@@ -1,12 +1,12 @@
--- SmtEngines.dfy: the constants, and Context.ToString. CMD_EXIT is left out.
+-- SmtEngines.dfy: the constants, and Context.ToString. CMD_EXIT is left out. A push and a pop have the numeral that SMT-LIB 2.6 asks for; the Dafny constants have none.
 use mathlib.Core.List.{_++_}
 use Rattle.basics.specs.Text.{Text, ascii}
 
 unfoldable pub CMD_PUSH : Text
-CMD_PUSH = ascii "(push)"
+CMD_PUSH = ascii "(push 1)"
 
 unfoldable pub CMD_POP : Text
-CMD_POP = ascii "(pop)"
+CMD_POP = ascii "(pop 1)"
 
 unfoldable pub CMD_CHECK_SAT : Text
 CMD_CHECK_SAT = ascii "(check-sat)"

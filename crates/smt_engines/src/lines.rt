@@ -18,13 +18,13 @@ use records::named;
 pub fn push(at: usize, out: &mut [u8]) -> usize
     ensures { λ r. ⌜ WroteAt (script (Push ∷ [])) at (now (out .entry)) (now (out .exit)) r ⌝ }
 {
-    put_at(b"(push)\n", at, out)
+    put_at(b"(push 1)\n", at, out)
 }
 
 pub fn pop(at: usize, out: &mut [u8]) -> usize
     ensures { λ r. ⌜ WroteAt (script (Pop ∷ [])) at (now (out .entry)) (now (out .exit)) r ⌝ }
 {
-    put_at(b"(pop)\n", at, out)
+    put_at(b"(pop 1)\n", at, out)
 }
 
 pub fn check_sat(at: usize, out: &mut [u8]) -> usize

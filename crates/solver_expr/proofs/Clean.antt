@@ -1,12 +1,13 @@
 -- What is printed from names without a line end has none.
-use Prim.Native.Nat.{ℕ}
+use Prim.Native.Nat.{ℕ, suc}
 use mathlib.Core.Path.{_≡_, refl}
 use mathlib.Core.List.{List, [], _∷_, _++_}
 use mathlib.Core.Bool.{Bool, true, false}
+use lib.IntN.{ℤ, pos, negsuc}
 use Rattle.basics.specs.Text.{Text, ascii, if_then_else_}
 use Rattle.basics.specs.Basics.{nat2String}
 use Rattle.basics.proofs.All.{All, end, more}
-use Rattle.basics.proofs.Clean.{Clean, clean-append, clean-nat, clean-int}
+use Rattle.basics.proofs.Clean.{Clean, clean-append, clean-nat}
 use Rattle.book.specs.SType.{SType, SBool, SInt, SUserType, SConstant}
 use Rattle.book.specs.RExpr.{RExpr, RExprs, RPatterns, Function, Literal, ROperator, BuiltInOperator, UserDefinedFunction, Boolean, Integer, CustomLiteral, Id, FuncAppl, IfThenElse, LetExpr, QuantifierExpr, []ʳ, _∷ʳ_, []ᵖ, _∷ᵖ_}
 use Rattle.book.proofs.Every.{Asked, EveryR, EveryRs, EveryPs}
@@ -132,16 +133,21 @@ unfolding boolean
 boolean-clean true = refl
 boolean-clean false = refl
 
+integer-clean : (x : ℤ) → CleanS (integer x)
+unfolding integer
+integer-clean (pos n) = clean-nat n
+integer-clean (negsuc n) = appl-clean (ascii "-") _ refl (clean-nat (suc n), tt)
+
 tag-clean : (b : Bool) (tag : ℕ) (t : Text) → Clean t → Clean (if b then nat2String tag else t)
 tag-clean true tag t h = clean-nat tag
 tag-clean false tag t h = h
 
 mutual
-  unfolding toSExpr integer id literalToString
+  unfolding toSExpr id literalToString
 
   pub expr-clean : (e : RExpr) (tag : ℕ) → CleanR e → CleanS (toSExpr e tag)
   expr-clean (Boolean b) tag h = boolean-clean b
-  expr-clean (Integer x) tag h = clean-int x
+  expr-clean (Integer x) tag h = integer-clean x
   expr-clean (CustomLiteral t l) tag h = tag-clean (isTag l) tag (literalName l) (literal-clean l h)
   expr-clean (Id v) tag h = h .name
   expr-clean (FuncAppl op args) tag h = appl-clean (operatorName op) (toSExprs args tag) (operator-clean op (h .0)) (exprs-clean args tag (h .1))

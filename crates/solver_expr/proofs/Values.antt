@@ -4,16 +4,21 @@ use native.Mathlib.Omega.{arith}
 use mathlib.Core.Path.{_≡_, refl, sym, ap, _∙_, subst}
 use mathlib.Core.List.{List, [], _∷_}
 use mathlib.Core.Bool.{Bool, true, false, not}
-use lib.Dec.{eqb}
+use lib.Dec.{eqb, ltb}
+use lib.IntN.{pos, negsuc}
+use borrow.Author.Tests.{lt-ltb, le-ltb}
 use Rattle.basics.specs.Text.{Text, ascii, same, if_then_else_}
+use Rattle.basics.specs.Basics.{int64}
+use Rattle.basics.specs.Write.{MOST}
 use Rattle.book.specs.Book.{Book, names, types, constants, functions, terms, size, field, nameText}
 use Rattle.book.specs.Laid.{Holds}
 use Rattle.book.specs.Decode.{kindOf, constantOf, functionOf, typeOf, literalOf, termBy}
 use Rattle.book_test.specs.Promise.{Promise, Range, GoodKind}
 use Rattle.solver_expr.specs.SolverExpr.{SExpr, S, boolean, integer, id, funcAppl, negation, typeToSExpr}
 use Rattle.solver_expr.specs.Lowering.{operatorName, isTag, literalToString, toSExpr}
-use Rattle.solver_expr.specs.Values.{wordText, textOf, rowOf, meaning, termOf, termsOf, patternsOf, quantifierWord, OfKind, LiteralHere, ApplHere, QuantifierHere, FineName, FineRow, Fine, Ready, ReadyType, IsBoolean, IsAppl, IsNegation, IsId, IsType, IsLiteral, Lowered, withoutVariables, Bare}
+use Rattle.solver_expr.specs.Values.{wordText, textOf, rowOf, meaning, termOf, termsOf, patternsOf, quantifierWord, OfKind, LiteralHere, ApplHere, QuantifierHere, FineName, FineRow, Fine, Ready, ReadyType, IsBoolean, IsInteger, IsAppl, IsNegation, IsId, IsType, IsLiteral, Lowered, withoutVariables, Bare}
 use Rattle.solver_expr.specs.declared.Word.the-variants as word
+use Rattle.solver_expr.specs.declared.SName.{SName}
 use Rattle.solver_expr.specs.declared.SName.the-variants as name
 use Rattle.solver_expr.specs.declared.SRow.the-variants as row
 use Rattle.solver_expr.specs.declared.SExpr as code
@@ -30,22 +35,32 @@ pub boolean-false : {x : Bool} → x ≡ false → IsBoolean x (value.S (name.Wo
 unfolding Fine FineName meaning textOf wordText boolean
 boolean-false e = rw e (record { fine = λ b. tt; is = λ b tag. refl })
 
-pub is-appl-none : {op t count : ℕ} → count ≡ 0 → IsAppl op t count (value.S (name.Name op))
-unfolding Fine FineName meaning textOf
-is-appl-none {op} {t} {count} z =
-    record { fine = λ b h. h .operator; is = λ b tag e. appl-none b tag (nameText b op) (field b terms t 2) (field b terms t 3) (sym e ∙ z) }
+pub integer-bare : {bits : ℕ} → bits < 2 ^ 63 → IsInteger (int64 bits) (value.S (name.Numeral bits))
+unfolding Fine FineName meaning textOf integer int64
+integer-bare {bits} l = rw (lt-ltb bits (2 ^ 63) l) (record { fine = λ b. tt; is = λ b tag. refl })
 
-pub is-appl-some : {op t count : ℕ} → (count ≡ 0 → ⊥) → IsAppl op t count (value.PP (row.Appl op t))
+pub integer-minus : {bits : ℕ} → 2 ^ 63 ≤ bits → bits < 2 ^ 64 → IsInteger (int64 bits) (value.PP (row.Minus (MOST - bits + 1)))
+unfolding Fine FineRow meaning rowOf integer funcAppl int64
+integer-minus {bits} h f =
+    let e : MOST - bits + 1 ≡ suc (2 ^ 64 - suc bits) = omega (arith, h, f) in
+    rw (le-ltb bits (2 ^ 63) h, e) (record { fine = λ b. tt; is = λ b tag. refl })
+
+pub is-appl-none : {op : SName} {t count : ℕ} → count ≡ 0 → IsAppl op t count (value.S op)
+unfolding Fine meaning
+is-appl-none {op} {t} {count} z =
+    record { fine = λ b h. h .operator; is = λ b tag e. appl-none b tag (textOf b tag op) (field b terms t 2) (field b terms t 3) (sym e ∙ z) }
+
+pub is-appl-some : {op : SName} {t count : ℕ} → (count ≡ 0 → ⊥) → IsAppl op t count (value.PP (row.Appl op t))
 unfolding Fine FineRow meaning rowOf
 is-appl-some {op} {t} {count} n =
-    record { fine = λ b h. h; is = λ b tag e. appl-some b tag (nameText b op) (field b terms t 2) (field b terms t 3) (λ z. n (e ∙ z)) }
+    record { fine = λ b h. h; is = λ b tag e. appl-some b tag (textOf b tag op) (field b terms t 2) (field b terms t 3) (λ z. n (e ∙ z)) }
 
 pub is-negation : (t : ℕ) → IsNegation t (value.PP (row.Negation t))
 unfolding Fine FineRow meaning rowOf negation
 is-negation t = record { fine = λ b h. h; is = λ b tag. refl }
 
 module _ (b : Book) where
-  pub is-id : {v x : ℕ} → Ready b constants v → x ≡ field b constants v 0 → IsId b v (value.S (name.Name x))
+  pub is-id : {v x : ℕ} → Ready b constants v → x ≡ field b constants v 0 → IsId b v (value.S (name.Symbol x))
   unfolding Fine FineName meaning textOf id constantOf
   is-id {v} r e = rw e (record { fine = r .promise .constant v (r .here) .name; is = λ tag. refl })
 
@@ -57,7 +72,7 @@ module _ (b : Book) where
   unfolding Fine FineName meaning textOf wordText typeOf typeToSExpr
   is-int e = rw e (record { fine = tt; is = λ tag. refl })
 
-  pub is-user : {x : ℕ} (k : ℕ) → ReadyType b k → (k ≡ 0 → ⊥) → (k ≡ 1 → ⊥) → x ≡ field b types (k - 2) 0 → IsType b k (value.S (name.Name x))
+  pub is-user : {x : ℕ} (k : ℕ) → ReadyType b k → (k ≡ 0 → ⊥) → (k ≡ 1 → ⊥) → x ≡ field b types (k - 2) 0 → IsType b k (value.S (name.Symbol x))
   unfolding Fine FineName meaning textOf typeOf typeToSExpr
   is-user zero r n m e = absurd (n refl)
   is-user (suc zero) r n m e = absurd (m refl)
@@ -86,9 +101,11 @@ module _ (b : Book) where
         let w : IsBoolean (not (eqb (field b terms t 1) 0)) a = rw (← ex) h in
         record { fine = w .fine b; is = λ tag. w .is b tag ∙ sym (by-kind b t P l (kind-at b t 0 ek e) tag) }
 
-    pub lowered-integer : {k : ℕ} {a : code.SExpr} → k ≡ field b terms t 0 → k ≡ 1 → a ≡ value.S (name.Integer (field b terms t 1 + 2 ^ 32 * field b terms t 2)) → Lowered b t a
-    unfolding toSExpr termBy kindOf Fine FineName meaning textOf integer
-    lowered-integer ek e h = rw h (record { fine = tt; is = λ tag. sym (by-kind b t P l (kind-at b t 1 ek e) tag) })
+    pub lowered-integer : {k x : ℕ} {a : code.SExpr} → k ≡ field b terms t 0 → k ≡ 1 → x ≡ field b terms t 1 + 2 ^ 32 * field b terms t 2 → IsInteger (int64 x) a → Lowered b t a
+    unfolding toSExpr termBy kindOf
+    lowered-integer {k} {x} {a} ek e ex h =
+        let w : IsInteger (int64 (field b terms t 1 + 2 ^ 32 * field b terms t 2)) a = rw (← ex) h in
+        record { fine = w .fine b; is = λ tag. w .is b tag ∙ sym (by-kind b t P l (kind-at b t 1 ek e) tag) }
 
     pub literal-here : {k : ℕ} → k ≡ field b terms t 0 → k ≡ 2 → LiteralHere b t
     unfolding kindOf GoodKind
@@ -111,11 +128,11 @@ module _ (b : Book) where
     args-up : Range b t (field b terms t 2) (field b terms t 3) → Range b (size b terms) (field b terms t 2) (field b terms t 3)
     args-up r = record { ends = r .ends; below = λ i h. omega (arith, r .below i h) }
 
-    pub lowered-builtin : {k op count : ℕ} {a : code.SExpr} → k ≡ field b terms t 0 → k ≡ 4 → op ≡ field b terms t 1 → count ≡ field b terms t 3 → IsAppl op t count a → Lowered b t a
-    unfolding toSExpr operatorName termBy kindOf GoodKind termsOf
+    pub lowered-builtin : {k op count : ℕ} {a : code.SExpr} → k ≡ field b terms t 0 → k ≡ 4 → op ≡ field b terms t 1 → count ≡ field b terms t 3 → IsAppl (name.Operator op) t count a → Lowered b t a
+    unfolding toSExpr operatorName termBy kindOf GoodKind termsOf FineName textOf
     lowered-builtin {k} {op} {count} {a} ek e eo ec h =
         let g = good-kind b t P l (kind-at b t 4 ek e) in
-        let w : IsAppl (field b terms t 1) t count a = rw (← eo) h in
+        let w : IsAppl (name.Operator (field b terms t 1)) t count a = rw (← eo) h in
         record {
           fine = w .fine b (record { operator = g .name; here = l; args = args-up (g .args) });
           is = λ tag. w .is b tag ec ∙ sym (by-kind b t P l (kind-at b t 4 ek e) tag);
@@ -125,11 +142,11 @@ module _ (b : Book) where
     unfolding kindOf GoodKind
     function-here ek e ef = rw ef (good-kind b t P l (kind-at b t 5 ek e) .function)
 
-    pub lowered-application : {k f op count : ℕ} {a : code.SExpr} → k ≡ field b terms t 0 → k ≡ 5 → f ≡ field b terms t 1 → op ≡ field b functions f 0 → count ≡ field b terms t 3 → IsAppl op t count a → Lowered b t a
-    unfolding toSExpr operatorName functionOf termBy kindOf GoodKind termsOf
+    pub lowered-application : {k f op count : ℕ} {a : code.SExpr} → k ≡ field b terms t 0 → k ≡ 5 → f ≡ field b terms t 1 → op ≡ field b functions f 0 → count ≡ field b terms t 3 → IsAppl (name.Symbol op) t count a → Lowered b t a
+    unfolding toSExpr operatorName functionOf termBy kindOf GoodKind termsOf FineName textOf
     lowered-application {k} {f} {op} {count} {a} ek e ef eo ec h =
         let g = good-kind b t P l (kind-at b t 5 ek e) in
-        let w : IsAppl (field b functions (field b terms t 1) 0) t count a = rw (← ef, ← eo) h in
+        let w : IsAppl (name.Symbol (field b functions (field b terms t 1) 0)) t count a = rw (← ef, ← eo) h in
         record {
           fine = w .fine b (record { operator = P .function _ (g .function) .name; here = l; args = args-up (g .args) });
           is = λ tag. w .is b tag ec ∙ sym (by-kind b t P l (kind-at b t 5 ek e) tag);

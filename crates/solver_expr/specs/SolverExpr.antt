@@ -1,11 +1,11 @@
 -- SolverExpr.dfy: S-expressions, how they are printed, and their builders.
-use Prim.Native.Nat.{ℕ, _+_}
+use Prim.Native.Nat.{ℕ, suc, _+_}
 use mathlib.Core.List.{List, [], _∷_, _++_}
 use mathlib.Core.Bool.{Bool, true, false}
-use lib.IntN.{ℤ}
+use lib.IntN.{ℤ, pos, negsuc}
 use lib.ListN.{replicate}
 use Rattle.basics.specs.Text.{Text, ascii, newline, spaceByte, if_then_else_}
-use Rattle.basics.specs.Basics.{int2String}
+use Rattle.basics.specs.Basics.{nat2String}
 use Rattle.book.specs.SType.{SType, SBool, SInt, SUserType, SConstant}
 
 -- pun: solver expression. SExprs is seq<SExpr>
@@ -95,15 +95,17 @@ AND = ascii "and"
 unfoldable pub boolean : Bool → SExpr
 boolean b = S (if b then TRUE else FALSE)
 
-unfoldable pub integer : ℤ → SExpr
-integer x = S (int2String x)
-
 unfoldable pub id : SConstant → SExpr
 id x = S (x .name)
 
 unfoldable pub funcAppl : Text → SExprs → SExpr
 funcAppl op []ˢ = S op
 funcAppl op (a ∷ˢ args) = PP (S op ∷ˢ a ∷ˢ args)
+
+-- SMT-LIB 2.6 decides here over the Dafny body: it has `-5` as a symbol, and a negative number as a minus applied to its numeral. Behind funcAppl, which it uses.
+unfoldable pub integer : ℤ → SExpr
+integer (pos n) = S (nat2String n)
+integer (negsuc n) = funcAppl (ascii "-") (S (nat2String (suc n)) ∷ˢ []ˢ)
 
 unfoldable pub eq : SExpr → SExpr → SExpr
 eq e0 e1 = PP (S EQ ∷ˢ e0 ∷ˢ e1 ∷ˢ []ˢ)

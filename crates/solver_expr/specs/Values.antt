@@ -3,13 +3,14 @@ use Prim.Native.Nat.{ℕ, zero, suc, _+_, _*_, _<_}
 use mathlib.Core.Path.{_≡_}
 use mathlib.Core.List.{List, [], _∷_, map}
 use mathlib.Core.Bool.{Bool, true, false, not, _&&_}
+use lib.IntN.{ℤ}
 use lib.Dec.{eqb}
 use Rattle.basics.specs.Text.{Text, ascii, if_then_else_}
-use Rattle.basics.specs.Basics.{nat2String, int2String, int64}
+use Rattle.basics.specs.Basics.{nat2String}
 use Rattle.book.specs.Book.{Book, Section, names, types, constants, functions, patterns, terms, size, field, entries, nameText, userTypes}
 use Rattle.book.specs.Decode.{Kind, ifThenElse, letExpr, quantifierExpr, kindOf, typeOf, constantOf, functionOf, literalOf, argsOf, patternOf, toRPatterns, term}
 use Rattle.book_test.specs.Promise.{Promise, Range, GoodLiteral, GoodKind}
-use Rattle.solver_expr.specs.SolverExpr.{SExpr, SExprs, S, PP, []ˢ, _∷ˢ_, FALSE, TRUE, NOT, boolean, id, funcAppl, negation, typeToSExpr, typeList}
+use Rattle.solver_expr.specs.SolverExpr.{SExpr, SExprs, S, PP, []ˢ, _∷ˢ_, FALSE, TRUE, NOT, boolean, integer, id, funcAppl, negation, typeToSExpr, typeList}
 use Rattle.solver_expr.specs.Lowering.{literalName, literalToString, boundVarToSExpr, boundVarsToSExpr, annotate, toSExpr, toSExprs, patternsToSExprs}
 use Rattle.solver_expr.specs.declared.Word.{Word}
 use Rattle.solver_expr.specs.declared.Word.the-variants as word
@@ -24,6 +25,7 @@ unfoldable pub wordText : Word → Text
 wordText word.False = FALSE
 wordText word.True = TRUE
 wordText word.Not = NOT
+wordText word.Minus = ascii "-"
 wordText word.Ite = ascii "ite"
 wordText word.Let = ascii "let"
 wordText word.Forall = ascii "forall"
@@ -50,15 +52,17 @@ module _ (b : Book) (tag : ℕ) where
   -- the string of S(string)
   unfoldable pub textOf : SName → Text
   textOf (name.Word w) = wordText w
-  textOf (name.Name n) = nameText b n
-  textOf (name.Integer bits) = int2String (int64 bits)
+  textOf (name.Operator n) = nameText b n
+  textOf (name.Symbol n) = nameText b n
+  textOf (name.Numeral n) = nat2String n
   textOf (name.Literal t) = literalName (literalOf b t)
   textOf name.Tag = nat2String tag
 
   -- the seq of PP(seq)
   unfoldable pub rowOf : SRow → SExprs
   rowOf (row.Negation t) = S NOT ∷ˢ termOf t ∷ˢ []ˢ
-  rowOf (row.Appl op t) = S (nameText b op) ∷ˢ termsOf (field b terms t 2) (field b terms t 3)
+  rowOf (row.Minus n) = S (ascii "-") ∷ˢ S (nat2String n) ∷ˢ []ˢ
+  rowOf (row.Appl op t) = S (textOf op) ∷ˢ termsOf (field b terms t 2) (field b terms t 3)
   rowOf (row.Ite t) = S (ascii "ite") ∷ˢ termOf (field b terms t 1) ∷ˢ termOf (field b terms t 2) ∷ˢ termOf (field b terms t 3) ∷ˢ []ˢ
   rowOf (row.Let t) =
       S (ascii "let") ∷ˢ PP (PP (id (constantOf b (field b terms t 1)) ∷ˢ termOf (field b terms t 2) ∷ˢ []ˢ) ∷ˢ []ˢ) ∷ˢ termOf (field b terms t 3) ∷ˢ []ˢ
@@ -89,11 +93,6 @@ module _ (b : Book) where
     pub here : t < size b terms
     pub good : GoodLiteral b t
 
-  pub record ApplHere (op t : ℕ) : Type 0 where
-    pub operator : op < size b names
-    pub here : t < size b terms
-    pub args : Range b (size b terms) (field b terms t 2) (field b terms t 3)
-
   pub record QuantifierHere (t : ℕ) : Type 0 where
     pub here : t < size b terms
     pub good : GoodKind quantifierExpr b t
@@ -101,13 +100,20 @@ module _ (b : Book) where
 
   unfoldable pub FineName : SName → Type 0
   FineName (name.Word w) = Unit {0}
-  FineName (name.Name n) = n < size b names
-  FineName (name.Integer bits) = Unit {0}
+  FineName (name.Operator n) = n < size b names
+  FineName (name.Symbol n) = n < size b names
+  FineName (name.Numeral n) = Unit {0}
   FineName (name.Literal t) = LiteralHere t
   FineName name.Tag = Unit {0}
 
+  pub record ApplHere (op : SName) (t : ℕ) : Type 0 where
+    pub operator : FineName op
+    pub here : t < size b terms
+    pub args : Range b (size b terms) (field b terms t 2) (field b terms t 3)
+
   unfoldable pub FineRow : SRow → Type 0
   FineRow (row.Negation t) = t < size b terms
+  FineRow (row.Minus n) = Unit {0}
   FineRow (row.Appl op t) = ApplHere op t
   FineRow (row.Ite t) = OfKind ifThenElse t
   FineRow (row.Let t) = OfKind letExpr t
@@ -142,9 +148,13 @@ pub record IsBoolean (x : Bool) (r : code.SExpr) : Type 0 where
   pub fine : (b : Book) → Fine b r
   pub is : (b : Book) (tag : ℕ) → meaning b tag r ≡ boolean x
 
-pub record IsAppl (op t count : ℕ) (r : code.SExpr) : Type 0 where
+pub record IsInteger (x : ℤ) (r : code.SExpr) : Type 0 where
+  pub fine : (b : Book) → Fine b r
+  pub is : (b : Book) (tag : ℕ) → meaning b tag r ≡ integer x
+
+pub record IsAppl (op : SName) (t count : ℕ) (r : code.SExpr) : Type 0 where
   pub fine : (b : Book) → ApplHere b op t → Fine b r
-  pub is : (b : Book) (tag : ℕ) → count ≡ field b terms t 3 → meaning b tag r ≡ funcAppl (nameText b op) (termsOf b tag (field b terms t 2) (field b terms t 3))
+  pub is : (b : Book) (tag : ℕ) → count ≡ field b terms t 3 → meaning b tag r ≡ funcAppl (textOf b tag op) (termsOf b tag (field b terms t 2) (field b terms t 3))
 
 pub record IsNegation (t : ℕ) (r : code.SExpr) : Type 0 where
   pub fine : (b : Book) → t < size b terms → Fine b r

@@ -1,8 +1,9 @@
 // SolverExpr.dfy and the first part of RSolver.dfy: S-expressions over the book, and the lowering of terms. Nothing is written here.
 ghost use mathlib.Core.Path.{_≡_};
+ghost use Rattle.basics.specs.Basics.{int64};
 ghost use Rattle.book.specs.Book.{constants};
 ghost use Rattle.solver_expr.specs.SolverExpr.{FALSE, TRUE, EQ, NOT, AND};
-ghost use Rattle.solver_expr.specs.Values.{Ready, IsBoolean, IsId, IsAppl, IsNegation};
+ghost use Rattle.solver_expr.specs.Values.{Ready, IsBoolean, IsInteger, IsId, IsAppl, IsNegation};
 use book::Refusal;
 use book::field;
 use book::format::CONSTANT_NAME;
@@ -25,6 +26,7 @@ pub enum Word {
     False,
     True,
     Not,
+    Minus,
     Ite,
     Let,
     Forall,
@@ -35,19 +37,27 @@ pub enum Word {
     Int,
 }
 
-// The string of S(string): a word, a name of the book, an Integer's 64 bits, a literal's term, or the number of %tag.
+// From here on 64 bits are a negative number.
+const SIGN: u64 = 0x8000_0000_0000_0000;
+
+// The bits of -1.
+const MAX: u64 = 0xFFFF_FFFF_FFFF_FFFF;
+
+// The string of S(string): a word, the name of a built-in operator or of a type, constant or function, a number that is not negative, a literal's term, or the number of %tag.
 pub enum SName {
     Word(Word),
-    Name(usize),
-    Integer(u64),
+    Operator(usize),
+    Symbol(usize),
+    Numeral(u64),
     Literal(usize),
     Tag,
 }
 
-// The seq of PP(seq), by the record that it is made of: a term, or for BoundVar a constant, for Terms a pattern, for Types a function.
+// The seq of PP(seq), by the record that it is made of: a term, or for BoundVar a constant, for Terms a pattern, for Types a function. Minus has the magnitude of a negative number, Appl the name of its head.
 pub enum SRow {
     Negation(usize),
-    Appl(usize, usize),
+    Minus(u64),
+    Appl(SName, usize),
     Ite(usize),
     Let(usize),
     Bindings(usize),
@@ -118,20 +128,31 @@ impl SExpr {
         }
     }
 
+    // Integer(x), x the number that 64 bits are as two's complement. A negative one is not negated, since the least can't be.
+    pub fn integer(bits: u64) -> SExpr
+        ensures { λ r. ⌜ IsInteger (int64 bits) r ⌝ }
+    {
+        if bits < SIGN {
+            SExpr::S(SName::Numeral(bits))
+        } else {
+            SExpr::PP(SRow::Minus(MAX - bits + 1))
+        }
+    }
+
     // Id(x)
     pub fn id(book: &[u8], v: usize) -> SExpr
         requires { ⌜ Ready (now book) constants v ⌝ }
         ensures { λ r. ⌜ IsId (now (book .entry)) v r ⌝ }
     {
-        SExpr::S(SName::Name(field(book, CONSTANTS, v, CONSTANT_NAME)))
+        SExpr::S(SName::Symbol(field(book, CONSTANTS, v, CONSTANT_NAME)))
     }
 
-    // FuncAppl(op, args), op a name, args the `count` arguments of term t
-    pub fn func_appl(op: usize, t: usize, count: usize) -> SExpr
+    // FuncAppl(op, args), args the `count` arguments of term t
+    pub fn func_appl(op: SName, t: usize, count: usize) -> SExpr
         ensures { λ r. ⌜ IsAppl op t count r ⌝ }
     {
         if count == 0 {
-            SExpr::S(SName::Name(op))
+            SExpr::S(op)
         } else {
             SExpr::PP(SRow::Appl(op, t))
         }

@@ -3,8 +3,6 @@ ghost use mathlib.Core.Path.{_≡_};
 ghost use Prim.Native.Nat.{_+_, _*_, _^_};
 ghost use Rattle.basics.specs.Text.{ascii, same};
 ghost use Rattle.book.specs.Book.{names, terms, field, nameText};
-ghost use Rattle.solver_expr.specs.declared.SExpr.the-variants.{S};
-ghost use Rattle.solver_expr.specs.declared.SName.the-variants.{Integer};
 ghost use Rattle.solver_expr.specs.Values.{Ready, ReadyType, ReadyLiteral, IsType, IsLiteral, withoutVariables, Bare, Lowered};
 use super::SExpr;
 use super::SName;
@@ -26,7 +24,7 @@ pub fn type_to_sexpr(book: &[u8], k: usize) -> SExpr
     match k {
         BOOL => SExpr::S(SName::Word(Word::Bool)),
         INT => SExpr::S(SName::Word(Word::Int)),
-        USER_TYPES.. => SExpr::S(SName::Name(field(book, TYPES, k - USER_TYPES, TYPE_NAME))),
+        USER_TYPES.. => SExpr::S(SName::Symbol(field(book, TYPES, k - USER_TYPES, TYPE_NAME))),
     }
 }
 
@@ -63,13 +61,6 @@ pub fn integer_bits(book: &[u8], t: usize) -> u64
     (low + HIGH * high) as u64
 }
 
-fn integer(book: &[u8], t: usize) -> SExpr
-    requires { ⌜ Ready (now book) terms t ⌝ }
-    ensures { λ r. ⌜ r ≡ S (Integer (field (now (book .entry)) terms t 1 + 2 ^ 32 * field (now (book .entry)) terms t 2)) ⌝ }
-{
-    SExpr::S(SName::Integer(integer_bits(book, t)))
-}
-
 fn without_variables(book: &[u8], t: usize) -> bool
     requires { ⌜ Ready (now book) terms t ⌝ }
     ensures { λ r. ⌜ r ≡ withoutVariables (now (book .entry)) t ⌝ }
@@ -98,17 +89,17 @@ pub fn to_sexpr(book: &[u8], t: usize) -> SExpr
     let kind = field(book, TERMS, x, KIND);
     match kind {
         BOOLEAN => SExpr::boolean(field(book, TERMS, x, BOOLEAN_VALUE) != 0),
-        INTEGER => integer(book, x),
+        INTEGER => SExpr::integer(integer_bits(book, x)),
         CUSTOM_LITERAL => literal(book, x),
         ID => SExpr::id(book, field(book, TERMS, x, ID_CONSTANT)),
         BUILT_IN => {
             let op = field(book, TERMS, x, OPERATOR);
-            SExpr::func_appl(op, x, field(book, TERMS, x, ARGUMENTS_COUNT))
+            SExpr::func_appl(SName::Operator(op), x, field(book, TERMS, x, ARGUMENTS_COUNT))
         }
         APPLICATION => {
             let f = field(book, TERMS, x, OPERATOR);
             let op = field(book, FUNCTIONS, f, FUNCTION_NAME);
-            SExpr::func_appl(op, x, field(book, TERMS, x, ARGUMENTS_COUNT))
+            SExpr::func_appl(SName::Symbol(op), x, field(book, TERMS, x, ARGUMENTS_COUNT))
         }
         IF_THEN_ELSE => SExpr::PP(SRow::Ite(x)),
         LET_EXPR => SExpr::PP(SRow::Let(x)),

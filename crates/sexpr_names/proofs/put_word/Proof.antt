@@ -48,6 +48,10 @@ returns-11 : tie.Need-returns-11
 unfolding wordText
 returns-11 c = word-as (c .before .before .before .before .before .enum-told11 .given .1) (c .before .before .put-all11 .ensures)
 
+returns-12 : tie.Need-returns-12
+unfolding wordText
+returns-12 c = word-as (c .before .before .before .before .before .enum-told12 .given .1) (c .before .before .put-all12 .ensures)
+
 pub put-word-spec : {M : Type 1} → statement M
 put-word-spec =
     tie.close
@@ -62,6 +66,9 @@ put-word-spec =
     (λ c κs. search needs)
     (λ c. search needs)
     (λ c κs. search needs)
+    (λ c. search needs)
+    (λ c κs. search needs)
+    (λ c. search needs)
     (λ c. search needs)
     (λ c κs. search needs)
     (λ c. search needs)
@@ -109,4 +116,6 @@ put-word-spec =
     (λ c. search needs)
     returns-10
     (λ c. search needs)
-    returns-11)
+    returns-11
+    (λ c. search needs)
+    returns-12)

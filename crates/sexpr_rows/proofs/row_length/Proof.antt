@@ -34,11 +34,11 @@ returns c = length-as _ (c .enum-told .given .1) refl
 
 returns-2 : tie.Need-returns-2
 unfolding rowLength
-returns-2 c = length-as _ (c .before .before .p .given .1) (ap (λ (n : ℕ). 1 + n) (c .field .ensures .is))
+returns-2 c = length-as _ (c .enum-told2 .given .1) refl
 
 returns-3 : tie.Need-returns-3
 unfolding rowLength
-returns-3 c = length-as _ (c .enum-told2 .given .1) refl
+returns-3 c = length-as _ (c .before .before .p .given .1) (ap (λ (n : ℕ). 1 + n) (c .field .ensures .is))
 
 returns-4 : tie.Need-returns-4
 unfolding rowLength
@@ -58,28 +58,33 @@ returns-7 c = length-as _ (c .enum-told6 .given .1) refl
 
 returns-8 : tie.Need-returns-8
 unfolding rowLength
-returns-8 c = length-as _ (c .before .before .p2 .given .1) (c .field2 .ensures .is)
+returns-8 c = length-as _ (c .enum-told7 .given .1) refl
 
 returns-9 : tie.Need-returns-9
 unfolding rowLength
-returns-9 c = length-as _ (c .enum-told7 .given .1) refl
+returns-9 c = length-as _ (c .before .before .p2 .given .1) (c .field2 .ensures .is)
 
 returns-10 : tie.Need-returns-10
 unfolding rowLength
-returns-10 c = length-as _ (c .before .before .p3 .given .1) (ap (λ (n : ℕ). 2 + 2 * n) (c .field3 .ensures .is))
+returns-10 c = length-as _ (c .enum-told8 .given .1) refl
 
 returns-11 : tie.Need-returns-11
 unfolding rowLength
-returns-11 c = length-as _ (c .before .before .p4 .given .1) (c .field4 .ensures .is)
+returns-11 c = length-as _ (c .before .before .p3 .given .1) (ap (λ (n : ℕ). 2 + 2 * n) (c .field3 .ensures .is))
 
 returns-12 : tie.Need-returns-12
 unfolding rowLength
-returns-12 c = length-as _ (c .before .before .p5 .given .1) (c .field5 .ensures .is)
+returns-12 c = length-as _ (c .before .before .p4 .given .1) (c .field4 .ensures .is)
+
+returns-13 : tie.Need-returns-13
+unfolding rowLength
+returns-13 c = length-as _ (c .before .before .p5 .given .1) (c .field5 .ensures .is)
 
 pub row-length-spec : {M : Type 1} → statement M
 row-length-spec =
     tie.close
     (tie.spec
+    (λ c. search needs)
     (λ c. search needs)
     (λ c. search needs)
     field-requires
@@ -111,4 +116,5 @@ row-length-spec =
     returns-9
     returns-10
     returns-11
-    returns-12)
+    returns-12
+    returns-13)

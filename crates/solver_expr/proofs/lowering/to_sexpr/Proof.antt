@@ -19,7 +19,7 @@ returns : tie.Need-returns
 returns c = bared _ (c .before .before .before .before .bare .ensures) (lowered-boolean _ (c .before .before .before .before .before .before .pre .promise) (c .before .before .before .before .bare .ensures .here) (c .before .before .before .field .ensures .is) (c .before .before .match .keys1) (c .before .field2 .ensures .is) (c .boolean .ensures))
 
 returns-2 : tie.Need-returns-2
-returns-2 c = bared _ (c .before .before .before .bare .ensures) (lowered-integer _ (c .before .before .before .before .before .pre .promise) (c .before .before .before .bare .ensures .here) (c .before .before .field .ensures .is) (c .before .match .keys2) (c .integer .ensures))
+returns-2 c = bared _ (c .before .before .before .before .bare .ensures) (lowered-integer _ (c .before .before .before .before .before .before .pre .promise) (c .before .before .before .before .bare .ensures .here) (c .before .before .before .field .ensures .is) (c .before .before .match .keys2) (c .before .integer-bits .ensures) (c .integer .ensures))
 
 returns-3 : tie.Need-returns-3
 returns-3 c = bared _ (c .before .before .before .bare .ensures) (lowered-literal _ (c .before .before .before .before .before .pre .promise) (c .before .before .before .bare .ensures .here) (c .before .before .field .ensures .is) (c .before .match .keys3) (c .literal .ensures))
@@ -46,6 +46,7 @@ pub to-sexpr-spec : {M : Type 1} → statement M
 to-sexpr-spec =
     tie.close
     (tie.spec
+    (λ c κs. search needs)
     (λ c κs. search needs)
     (λ c κs. search needs)
     (λ c κs. search needs)
