@@ -78,39 +78,39 @@ texts =
     -- nothing is excluded in an axiom: z is bound around (f z), and free in the axiom, which declares it
     (
       walked (withAxiom (some (both (Id z) (Id z))) []) (QuantifierExpr true (z ∷ []) []ᵖ fz),
-      ascii "(push)" ∷ ascii "(declare-fun f (Int) Int)" ∷ ascii "(declare-fun z () Int)" ∷ ascii "(assert (and z z))" ∷ [],
+      ascii "(push 1)" ∷ ascii "(declare-fun f (Int) Int)" ∷ ascii "(declare-fun z () Int)" ∷ ascii "(assert (and z z))" ∷ [],
     )
     -- an axiom that explains g too is not sent for f alone
     ∷ (
       walked (withAxiom (some (Id z)) (0 ∷ 1 ∷ [])) (both fz (FuncAppl (UserDefinedFunction g) []ʳ)),
-      ascii "(push)" ∷ ascii "(declare-fun f (Int) Int)" ∷ ascii "(declare-fun z () Int)" ∷ ascii "(declare-fun g () Bool)" ∷ [],
+      ascii "(push 1)" ∷ ascii "(declare-fun f (Int) Int)" ∷ ascii "(declare-fun z () Int)" ∷ ascii "(declare-fun g () Bool)" ∷ [],
     )
     -- an axiom that applies its own function is sent once
     ∷ (
       walked (withAxiom (some fz) (0 ∷ [])) fz,
-      ascii "(push)" ∷ ascii "(declare-fun f (Int) Int)" ∷ ascii "(declare-fun z () Int)" ∷ ascii "(assert (f z))" ∷ [],
+      ascii "(push 1)" ∷ ascii "(declare-fun f (Int) Int)" ∷ ascii "(declare-fun z () Int)" ∷ ascii "(assert (f z))" ∷ [],
     )
     -- %tag is not declared
-    ∷ (walked (withLiterals (said (ascii "%tag") ∷ [])) (literal 0 (ascii "%tag") SInt), ascii "(push)" ∷ [])
+    ∷ (walked (withLiterals (said (ascii "%tag") ∷ [])) (literal 0 (ascii "%tag") SInt), ascii "(push 1)" ∷ [])
     -- literals of one text and two types are two
     ∷ (
       walked (withLiterals (some (record { s = ascii "a"; typ = SInt }) ∷ some (record { s = ascii "a"; typ = SBool }) ∷ [])) (both (literal 0 (ascii "a") SInt) (literal 1 (ascii "a") SBool)),
-      ascii "(push)" ∷ ascii "(declare-fun |a:int| () Int)" ∷ ascii "(declare-fun |a:bool| () Bool)" ∷ [],
+      ascii "(push 1)" ∷ ascii "(declare-fun |a:int| () Int)" ∷ ascii "(declare-fun |a:bool| () Bool)" ∷ [],
     )
     -- literals of one text and one type are one
     ∷ (
       walked (withLiterals (said (ascii "a") ∷ said (ascii "a") ∷ [])) (both (literal 0 (ascii "a") SInt) (literal 1 (ascii "a") SInt)),
-      ascii "(push)" ∷ ascii "(declare-fun |a:int| () Int)" ∷ [],
+      ascii "(push 1)" ∷ ascii "(declare-fun |a:int| () Int)" ∷ [],
     )
     -- siblings with equal terms are two nodes
     ∷ (
       moves (withNodes (node (Boolean true) ∷ node (Boolean true) ∷ [])) 1 2,
-      ascii "(push)" ∷ ascii "(assert true)" ∷ ascii "(pop)" ∷ ascii "(push)" ∷ ascii "(assert true)" ∷ [],
+      ascii "(push 1)" ∷ ascii "(assert true)" ∷ ascii "(pop 1)" ∷ ascii "(push 1)" ∷ ascii "(assert true)" ∷ [],
     )
     -- what a popped level declared is declared again
     ∷ (
       moves (withNodes (node (Id z) ∷ node (Id z) ∷ [])) 1 2,
-      ascii "(push)" ∷ ascii "(declare-fun z () Int)" ∷ ascii "(assert z)" ∷ ascii "(pop)" ∷ ascii "(push)" ∷ ascii "(declare-fun z () Int)" ∷ ascii "(assert z)" ∷ [],
+      ascii "(push 1)" ∷ ascii "(declare-fun z () Int)" ∷ ascii "(assert z)" ∷ ascii "(pop 1)" ∷ ascii "(push 1)" ∷ ascii "(declare-fun z () Int)" ∷ ascii "(assert z)" ∷ [],
     )
     ∷ []
 

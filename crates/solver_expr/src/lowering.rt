@@ -94,7 +94,11 @@ pub fn to_sexpr(book: &[u8], t: usize) -> SExpr
         ID => SExpr::id(book, field(book, TERMS, x, ID_CONSTANT)),
         BUILT_IN => {
             let op = field(book, TERMS, x, OPERATOR);
-            SExpr::func_appl(SName::Operator(op), x, field(book, TERMS, x, ARGUMENTS_COUNT))
+            SExpr::func_appl(
+                SName::Operator(op),
+                x,
+                field(book, TERMS, x, ARGUMENTS_COUNT),
+            )
         }
         APPLICATION => {
             let f = field(book, TERMS, x, OPERATOR);

@@ -118,12 +118,12 @@ atA = session 1 0 Nothing (levels ((constantPlaces + 0, 1) ∷ []))
 pub limits : List (Seen × Seen)
 unfolding everything books hosts fresh printIn traceIn atA
 limits =
-    -- a text that fills its buffer, and one byte less; a move's too (45 bytes). R 27
+    -- a text that fills its buffer, and one byte less; a move's too (47 bytes). R 27
     (printIn 15, print (shows 15 (ascii "(and a (not b))")))
     ∷ (printIn 14, print (hides 14 10))
     ∷ (printIn 0, print (hides 0 10))
-    ∷ (fresh small (moveTo (host 45 0) 1), call (writes 45 0 atA (ascii "(push)\n(declare-fun a () Bool)\n(assert true)\n")))
-    ∷ (fresh small (moveTo (host 44 0) 1), call (refuses 44 0 freshSession 10))
+    ∷ (fresh small (moveTo (host 47 0) 1), call (writes 47 0 atA (ascii "(push 1)\n(declare-fun a () Bool)\n(assert true)\n")))
+    ∷ (fresh small (moveTo (host 46 0) 1), call (refuses 46 0 freshSession 10))
     -- a term that is not in the book, before 10
     ∷ (print (printCall small dirty 17 0 flat (blank 0)), print (hides 0 7))
     -- a bad book, before 7
@@ -163,9 +163,9 @@ limits-hold = refl
 moves : Book → List ℕ → Seen
 moves b nodes = texts (run b (map (moveTo (host 300 0)) nodes) .text)
 
--- what a move leaves after others, in a buffer of 99 bytes
+-- what a move leaves after others, in a buffer of 120 bytes
 after : Book → List ℕ → ℕ → Seen
-after b nodes node = call (called b (run b (map (moveTo (host 300 0)) nodes) .now) (moveTo (host 99 0) node))
+after b nodes node = call (called b (run b (map (moveTo (host 300 0)) nodes) .now) (moveTo (host 120 0) node))
 
 -- the axiom's term is missing; only f lists it
 missing : Book
@@ -185,83 +185,83 @@ declared =
     -- two literals of one text: one declaration, of the first one's type alone, and its level is kept at the first term. R 34, 46
     (
       after literals [] 1,
-      call (writes 99 0 (session 1 0 Nothing (levels ((0, 1) ∷ (literalPlaces + 0, 1) ∷ []))) (ascii "(push)\n(declare-sort c 0)\n(declare-fun |a:b:c| () c)\n(assert (= |a:b:c| |a:b:c|))\n")),
+      call (writes 120 0 (session 1 0 Nothing (levels ((0, 1) ∷ (literalPlaces + 0, 1) ∷ []))) (ascii "(push 1)\n(declare-sort c 0)\n(declare-fun |a:b:c| () c)\n(assert (= |a:b:c| |a:b:c|))\n")),
     )
     -- then a constant of that name, which is declared too; %tag is not, nor its type, and counts c, the name and the constant. R 45
     ∷ (
       after literals (1 ∷ []) 2,
-      call (writes 99 0 (session 2 0 Nothing (levels ((0, 1) ∷ (literalPlaces + 0, 1) ∷ (constantPlaces + 0, 2) ∷ []))) (ascii "(push)\n(declare-fun |a:b:c| () Int)\n(assert (= 3 |a:b:c|))\n")),
+      call (writes 120 0 (session 2 0 Nothing (levels ((0, 1) ∷ (literalPlaces + 0, 1) ∷ (constantPlaces + 0, 2) ∷ []))) (ascii "(push 1)\n(declare-fun |a:b:c| () Int)\n(assert (= 3 |a:b:c|))\n")),
     )
     -- the two literals the other way round
     ∷ (
       after literals (1 ∷ 2 ∷ []) 3,
-      call (writes 99 0 (session 3 0 Nothing (levels ((1, 1) ∷ (literalPlaces + 6, 1) ∷ []))) (ascii "(pop)\n(pop)\n(push)\n(declare-sort b:c 0)\n(declare-fun |a:b:c| () b:c)\n(assert (= |a:b:c| |a:b:c|))\n")),
+      call (writes 120 0 (session 3 0 Nothing (levels ((1, 1) ∷ (literalPlaces + 6, 1) ∷ []))) (ascii "(pop 1)\n(pop 1)\n(push 1)\n(declare-sort b:c 0)\n(declare-fun |a:b:c| () b:c)\n(assert (= |a:b:c| |a:b:c|))\n")),
     )
     -- literals of Bool and Int, R 15; %tag where nothing is declared
     ∷ (
       moves literals (4 ∷ []),
-      texts (ascii "(push)\n(declare-fun |a:bool| () Bool)\n(declare-fun |a:int| () Int)\n(assert (= |a:bool| |a:int|))\n"),
+      texts (ascii "(push 1)\n(declare-fun |a:bool| () Bool)\n(declare-fun |a:int| () Int)\n(assert (= |a:bool| |a:int|))\n"),
     )
-    ∷ (moves literals (5 ∷ []), texts (ascii "(push)\n(assert 0)\n"))
+    ∷ (moves literals (5 ∷ []), texts (ascii "(push 1)\n(assert 0)\n"))
     -- an axiom explains f and g, g comes later: never sent where only f lists it, sent where g does too or g comes first. R 49
     ∷ (
       texts (run (explained 2 0) (moveTo (host 99 0) 1 ∷ askFor (host 99 0) 1 8 ∷ []) .text),
-      texts (ascii "(push)\n(declare-fun f () Int)\n(declare-fun g () Int)\n(assert (< f g))\n(push)\n(push)\n(assert (not (< g f)))\n(check-sat)\n"),
+      texts (ascii "(push 1)\n(declare-fun f () Int)\n(declare-fun g () Int)\n(assert (< f g))\n(push 1)\n(push 1)\n(assert (not (< g f)))\n(check-sat)\n"),
     )
     ∷ (
       moves (explained 2 1) (1 ∷ []),
-      texts (ascii "(push)\n(declare-fun f () Int)\n(declare-fun g () Int)\n(assert (= f g))\n(assert (< f g))\n"),
+      texts (ascii "(push 1)\n(declare-fun f () Int)\n(declare-fun g () Int)\n(assert (= f g))\n(assert (< f g))\n"),
     )
     ∷ (
       moves (explained 2 0) (2 ∷ []),
-      texts (ascii "(push)\n(declare-fun g () Int)\n(declare-fun f () Int)\n(assert (= f g))\n(assert (< g f))\n"),
+      texts (ascii "(push 1)\n(declare-fun g () Int)\n(declare-fun f () Int)\n(assert (= f g))\n(assert (< g f))\n"),
     )
     -- missing, it gives 9 though it would not be sent, also before 10, also in a goal; not where g alone is declared. R 25, 26
     ∷ (fresh missing (moveTo (host 300 0) 1), call (refuses 300 0 freshSession 9))
     ∷ (fresh missing (moveTo (host 0 0) 1), call (refuses 0 0 freshSession 9))
     ∷ (fresh missing (askFor (host 300 0) 3 3), call (refuses 300 0 freshSession 9))
-    ∷ (moves missing (3 ∷ []), texts (ascii "(push)\n(declare-fun g () Int)\n(assert g)\n"))
+    ∷ (moves missing (3 ∷ []), texts (ascii "(push 1)\n(declare-fun g () Int)\n(assert g)\n"))
     -- so no session is there, R 30; but an open question's goal is only looked for in the book, R 31
     ∷ (call (called missing forged (moveTo (host 9 0) 0)), call (refuses 9 0 forged 20))
     ∷ (
-      call (called missing (atG 3 Reply) (replyWith (host 12 0) true (ascii "unsat"))),
-      call (proves 12 0 (atG 0 Nothing) (ascii "(pop)\n(pop)\n")),
+      call (called missing (atG 3 Reply) (replyWith (host 16 0) true (ascii "unsat"))),
+      call (proves 16 0 (atG 0 Nothing) (ascii "(pop 1)\n(pop 1)\n")),
     )
     -- axioms in a cycle, the outer v not excluded in them, an axiom counts itself, no Explains, no arity. R 15, 45, 49
     ∷ (
       moves cycle (1 ∷ 2 ∷ []),
-      texts (ascii "(push)\n(declare-fun f (Int) Int)\n(declare-fun g () Int)\n(assert (< (f 0) 4))\n(declare-fun v () Int)\n(assert (= (g v) 5))\n(assert (forall ((v Int)) (f v)))\n(push)\n(assert 5)\n"),
+      texts (ascii "(push 1)\n(declare-fun f (Int) Int)\n(declare-fun g () Int)\n(assert (< (f 0) 4))\n(declare-fun v () Int)\n(assert (= (g v) 5))\n(assert (forall ((v Int)) (f v)))\n(push 1)\n(assert 5)\n"),
     )
     -- a function: its types, itself, its axiom, then its arguments. R 48
     ∷ (
       moves declaring (1 ∷ []),
-      texts (ascii "(push)\n(declare-sort T 0)\n(declare-sort U 0)\n(declare-sort W 0)\n(declare-fun f (T U) W)\n(assert true)\n(declare-sort X 0)\n(declare-fun c () X)\n(assert (f c))\n"),
+      texts (ascii "(push 1)\n(declare-sort T 0)\n(declare-sort U 0)\n(declare-sort W 0)\n(declare-fun f (T U) W)\n(assert true)\n(declare-sort X 0)\n(declare-fun c () X)\n(assert (f c))\n"),
     )
     -- a quantified constant's own type; free below, the constant is declared there. R 50
     ∷ (
       moves declaring (2 ∷ 3 ∷ []),
-      texts (ascii "(push)\n(declare-sort T 0)\n(assert (forall ((w T)) true))\n(push)\n(declare-fun w () T)\n(assert w)\n"),
+      texts (ascii "(push 1)\n(declare-sort T 0)\n(assert (forall ((w T)) true))\n(push 1)\n(declare-fun w () T)\n(assert w)\n"),
     )
     -- let: the constant's type; the constant itself only for the right side
-    ∷ (moves declaring (4 ∷ []), texts (ascii "(push)\n(declare-sort U 0)\n(assert (let ((v 3)) v))\n"))
-    ∷ (moves declaring (5 ∷ []), texts (ascii "(push)\n(declare-sort U 0)\n(declare-fun v () U)\n(assert (let ((v v)) v))\n"))
+    ∷ (moves declaring (4 ∷ []), texts (ascii "(push 1)\n(declare-sort U 0)\n(assert (let ((v 3)) v))\n"))
+    ∷ (moves declaring (5 ∷ []), texts (ascii "(push 1)\n(declare-sort U 0)\n(declare-fun v () U)\n(assert (let ((v v)) v))\n"))
     -- its body asked alone: v is free. R 14
     ∷ (
       texts (run declaring (askFor (host 99 0) 0 7 ∷ []) .text),
-      texts (ascii "(push)\n(declare-sort U 0)\n(declare-fun v () U)\n(push)\n(assert (not v))\n(check-sat)\n"),
+      texts (ascii "(push 1)\n(declare-sort U 0)\n(declare-fun v () U)\n(push 1)\n(assert (not v))\n(check-sat)\n"),
     )
     -- empty names are raw where they are declared, and () elsewhere. R 47
     ∷ (
       moves declaring (6 ∷ []),
-      texts (ascii "(push)\n(declare-sort  0)\n(declare-fun  () ())\n(declare-fun |:| () ())\n(assert (() () |:|))\n"),
+      texts (ascii "(push 1)\n(declare-sort  0)\n(declare-fun  () ())\n(declare-fun |:| () ())\n(assert (() () |:|))\n"),
     )
-    ∷ (moves declaring (7 ∷ []), texts (ascii "(push)\n(declare-sort  0)\n(declare-fun  (()) Int)\n(assert ())\n"))
+    ∷ (moves declaring (7 ∷ []), texts (ascii "(push 1)\n(declare-sort  0)\n(declare-fun  (()) Int)\n(assert ())\n"))
     -- equal siblings are two nodes
-    ∷ (moves declaring (8 ∷ 9 ∷ []), texts (ascii "(push)\n(assert true)\n(pop)\n(push)\n(assert true)\n"))
+    ∷ (moves declaring (8 ∷ 9 ∷ []), texts (ascii "(push 1)\n(assert true)\n(pop 1)\n(push 1)\n(assert true)\n"))
     -- ite: guard, then, else
     ∷ (
       moves declaring (10 ∷ []),
-      texts (ascii "(push)\n(declare-sort X 0)\n(declare-fun c () X)\n(declare-sort T 0)\n(declare-fun w () T)\n(declare-sort U 0)\n(declare-fun v () U)\n(assert (ite c w v))\n"),
+      texts (ascii "(push 1)\n(declare-sort X 0)\n(declare-fun c () X)\n(declare-sort T 0)\n(declare-fun w () T)\n(declare-sort U 0)\n(declare-fun v () U)\n(assert (ite c w v))\n"),
     )
     ∷ []
 

@@ -68,8 +68,8 @@ unfolding everything books hosts printed withNewlines after move2 move3 ask3 uns
 table =
     -- P1 to P6
     (printed 0 flat, print (shows 40 (ascii "0")))
-    ∷ (printed 1 flat, print (shows 40 (ascii "-5")))
-    ∷ (printed 2 flat, print (shows 40 (ascii "-9223372036854775808")))
+    ∷ (printed 1 flat, print (shows 40 (ascii "(- 5)")))
+    ∷ (printed 2 flat, print (shows 40 (ascii "(- 9223372036854775808)")))
     ∷ (printed 3 flat, print (shows 40 (ascii "and")))
     ∷ (printed 7 withNewlines, print (shows 40 (ascii "(and\n  a\n  (not\n    b))")))
     ∷ (printed 10 flat, print (shows 40 (ascii "(let ((v 3)) v)")))
@@ -77,32 +77,32 @@ table =
     ∷ (printed 13 flat, print (shows 40 (ascii "true")))
     ∷ (
       after small [] (moveTo (host 99 0) 1),
-      call (writes 99 0 atA (ascii "(push)\n(declare-fun a () Bool)\n(assert true)\n")),
+      call (writes 99 0 atA (ascii "(push 1)\n(declare-fun a () Bool)\n(assert true)\n")),
     )
     -- P8
     ∷ (
       after small [] (moveTo (host 99 0) 2),
-      call (writes 99 0 atT (ascii "(push)\n(declare-sort T 0)\n(declare-fun t () T)\n(assert (= t 2))\n")),
+      call (writes 99 0 atT (ascii "(push 1)\n(declare-sort T 0)\n(declare-fun t () T)\n(assert (= t 2))\n")),
     )
     -- P9, with no room at all
     ∷ (after sample (move2 ∷ []) (moveTo (host 0 0) 2), call (writes 0 0 at2 []))
     -- P10, with just the room
-    ∷ (after sample (move2 ∷ []) (moveTo (host 12 0) 0), call (writes 12 0 freshSession (ascii "(pop)\n(pop)\n")))
+    ∷ (after sample (move2 ∷ []) (moveTo (host 16 0) 0), call (writes 16 0 freshSession (ascii "(pop 1)\n(pop 1)\n")))
     -- the session, call by call
     ∷ (
       after sample [] move2,
-      call (writes 200 9 at2 (ascii "(push)\n(declare-fun x () Int)\n(assert (< 0 x))\n(push)\n(declare-fun y () Int)\n(declare-fun f (Int) Int)\n(assert (forall ((z Int)) (= (f z) z)))\n(assert (= y (f x)))\n")),
+      call (writes 200 9 at2 (ascii "(push 1)\n(declare-fun x () Int)\n(assert (< 0 x))\n(push 1)\n(declare-fun y () Int)\n(declare-fun f (Int) Int)\n(assert (forall ((z Int)) (= (f z) z)))\n(assert (= y (f x)))\n")),
     )
-    ∷ (after sample (move2 ∷ []) move3, call (writes 200 9 at3 (ascii "(pop)\n(push)\n(assert (< x 9))\n")))
+    ∷ (after sample (move2 ∷ []) move3, call (writes 200 9 at3 (ascii "(pop 1)\n(push 1)\n(assert (< x 9))\n")))
     ∷ (
       after sample (move2 ∷ move3 ∷ []) ask3,
-      call (writes 200 9 asked3 (ascii "(push)\n(declare-fun f (Int) Int)\n(assert (forall ((z Int)) (= (f z) z)))\n(declare-fun y () Int)\n(push)\n(assert (not (< 0 (f y))))\n(check-sat)\n")),
+      call (writes 200 9 asked3 (ascii "(push 1)\n(declare-fun f (Int) Int)\n(assert (forall ((z Int)) (= (f z) z)))\n(declare-fun y () Int)\n(push 1)\n(assert (not (< 0 (f y))))\n(check-sat)\n")),
     )
-    ∷ (after sample (move2 ∷ move3 ∷ ask3 ∷ []) unsat, call (proves 200 9 at3 (ascii "(pop)\n(pop)\n")))
+    ∷ (after sample (move2 ∷ move3 ∷ ask3 ∷ []) unsat, call (proves 200 9 at3 (ascii "(pop 1)\n(pop 1)\n")))
     -- and its text whole
     ∷ (
       texts (run sample (move2 ∷ move3 ∷ ask3 ∷ unsat ∷ []) .text),
-      texts (ascii "(push)\n(declare-fun x () Int)\n(assert (< 0 x))\n(push)\n(declare-fun y () Int)\n(declare-fun f (Int) Int)\n(assert (forall ((z Int)) (= (f z) z)))\n(assert (= y (f x)))\n(pop)\n(push)\n(assert (< x 9))\n(push)\n(declare-fun f (Int) Int)\n(assert (forall ((z Int)) (= (f z) z)))\n(declare-fun y () Int)\n(push)\n(assert (not (< 0 (f y))))\n(check-sat)\n(pop)\n(pop)\n"),
+      texts (ascii "(push 1)\n(declare-fun x () Int)\n(assert (< 0 x))\n(push 1)\n(declare-fun y () Int)\n(declare-fun f (Int) Int)\n(assert (forall ((z Int)) (= (f z) z)))\n(assert (= y (f x)))\n(pop 1)\n(push 1)\n(assert (< x 9))\n(push 1)\n(declare-fun f (Int) Int)\n(assert (forall ((z Int)) (= (f z) z)))\n(declare-fun y () Int)\n(push 1)\n(assert (not (< 0 (f y))))\n(check-sat)\n(pop 1)\n(pop 1)\n"),
     )
     ∷ []
 

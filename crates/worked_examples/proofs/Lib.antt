@@ -2,6 +2,7 @@ pub mod Everything
 pub mod Books
 pub mod Hosts
 pub mod Examples
+pub mod Negatives
 pub mod Listings
 pub mod Corners
 pub mod Operators

@@ -45,23 +45,23 @@ good = move 2 ∷ move 3 ∷ ask 3 18 ∷ reply (ascii "sat") ∷ model (ascii "
 mixed : List Call
 mixed =
     move 4 ∷ reply (ascii "sat")  -- 7, 22
-    ∷ moveTo (host 163 0) 2  -- 10: the text has 164 bytes
+    ∷ moveTo (host 167 0) 2  -- 10: the text has 168 bytes
     ∷ move 2
     ∷ model (ascii "sat")  -- 23
     ∷ move 3
     ∷ ask 3 19 ∷ ask 4 18  -- 7, 7
-    ∷ askFor (host 175 0) 2 18  -- 10: the text has 176 bytes. A refused ask does not move, R 28
+    ∷ askFor (host 183 0) 2 18  -- 10: the text has 184 bytes. A refused ask does not move, R 28
     ∷ ask 3 18
     ∷ move 3 ∷ ask 3 18 ∷ model (ascii "unsat")  -- 21, 21, 23
-    ∷ replyWith (host 11 20) true (ascii "unsat")  -- 10
+    ∷ replyWith (host 15 20) true (ascii "unsat")  -- 10
     ∷ replyWith (record { scratch = replicate 1023 0; text = blank 200; reason = blank 20 }) true (ascii "unsat")  -- 1
     ∷ reply (ascii "sat")
     ∷ reply (ascii "unsat") ∷ move 0 ∷ model (ascii "unsat")  -- 22, 21, 8
-    ∷ modelWith (host 12 10) (ascii "sat") (some (ascii "(model)"))  -- 10: the reason has 11 bytes
+    ∷ modelWith (host 16 10) (ascii "sat") (some (ascii "(model)"))  -- 10: the reason has 11 bytes
     ∷ model (ascii "sat")
     ∷ model (ascii "sat")  -- 23
     ∷ ask 2 18
-    ∷ replyWith (host 12 4) false (ascii "unsat")  -- 10: the reason has 5 bytes
+    ∷ replyWith (host 16 4) false (ascii "unsat")  -- 10: the reason has 5 bytes
     ∷ failed
     ∷ failed  -- 22
     ∷ move 0
@@ -78,28 +78,28 @@ wrote text = accepted (written (length text))
 
 text2 : Text
 text2 =
-    ascii "(push)\n(declare-fun x () Int)\n(assert (< 0 x))\n(push)\n(declare-fun y () Int)\n(declare-fun f (Int) Int)\n(assert (forall ((z Int)) (= (f z) z)))\n(assert (= y (f x)))\n"
+    ascii "(push 1)\n(declare-fun x () Int)\n(assert (< 0 x))\n(push 1)\n(declare-fun y () Int)\n(declare-fun f (Int) Int)\n(assert (forall ((z Int)) (= (f z) z)))\n(assert (= y (f x)))\n"
 
 text3 : Text
-text3 = ascii "(pop)\n(push)\n(assert (< x 9))\n"
+text3 = ascii "(pop 1)\n(push 1)\n(assert (< x 9))\n"
 
 asked3 : Text
 asked3 =
-    ascii "(push)\n(declare-fun f (Int) Int)\n(assert (forall ((z Int)) (= (f z) z)))\n(declare-fun y () Int)\n(push)\n(assert (not (< 0 (f y))))\n(check-sat)\n"
+    ascii "(push 1)\n(declare-fun f (Int) Int)\n(assert (forall ((z Int)) (= (f z) z)))\n(declare-fun y () Int)\n(push 1)\n(assert (not (< 0 (f y))))\n(check-sat)\n"
 
 asked2 : Text
 asked2 =
-    ascii "(pop)\n(push)\n(declare-fun y () Int)\n(declare-fun f (Int) Int)\n(assert (forall ((z Int)) (= (f z) z)))\n(assert (= y (f x)))\n(push)\n(push)\n(assert (not (< 0 (f y))))\n(check-sat)\n"
+    ascii "(pop 1)\n(push 1)\n(declare-fun y () Int)\n(declare-fun f (Int) Int)\n(assert (forall ((z Int)) (= (f z) z)))\n(assert (= y (f x)))\n(push 1)\n(push 1)\n(assert (not (< 0 (f y))))\n(check-sat)\n"
 
 pub answered : List (List (Outcome Values) × List (Outcome Values))
 unfolding everything books hosts move ask reply model failed good mixed answers wrote text2 text3 asked3 asked2
 answered = (
   answers sample freshSession good,
-  wrote text2 ∷ wrote text3 ∷ wrote asked3 ∷ wrote (ascii "(get-model)\n") ∷ accepted (unproved 12 11) ∷ wrote asked2 ∷ accepted (unproved 12 5) ∷ wrote (ascii "(pop)\n(pop)\n") ∷ [],
+  wrote text2 ∷ wrote text3 ∷ wrote asked3 ∷ wrote (ascii "(get-model)\n") ∷ accepted (unproved 16 11) ∷ wrote asked2 ∷ accepted (unproved 16 5) ∷ wrote (ascii "(pop 1)\n(pop 1)\n") ∷ [],
 )
     ∷ (
       answers sample freshSession mixed,
-      refused 7 ∷ refused 22 ∷ refused 10 ∷ wrote text2 ∷ refused 23 ∷ wrote text3 ∷ refused 7 ∷ refused 7 ∷ refused 10 ∷ wrote asked3 ∷ refused 21 ∷ refused 21 ∷ refused 23 ∷ refused 10 ∷ refused 1 ∷ wrote (ascii "(get-model)\n") ∷ refused 22 ∷ refused 21 ∷ refused 8 ∷ refused 10 ∷ accepted (unproved 12 11) ∷ refused 23 ∷ wrote asked2 ∷ refused 10 ∷ accepted (unproved 12 5) ∷ refused 22 ∷ wrote (ascii "(pop)\n(pop)\n") ∷ [],
+      refused 7 ∷ refused 22 ∷ refused 10 ∷ wrote text2 ∷ refused 23 ∷ wrote text3 ∷ refused 7 ∷ refused 7 ∷ refused 10 ∷ wrote asked3 ∷ refused 21 ∷ refused 21 ∷ refused 23 ∷ refused 10 ∷ refused 1 ∷ wrote (ascii "(get-model)\n") ∷ refused 22 ∷ refused 21 ∷ refused 8 ∷ refused 10 ∷ accepted (unproved 16 11) ∷ refused 23 ∷ wrote asked2 ∷ refused 10 ∷ accepted (unproved 16 5) ∷ refused 22 ∷ wrote (ascii "(pop 1)\n(pop 1)\n") ∷ [],
     )
     ∷ []
 
@@ -124,7 +124,7 @@ atEnd : Trace
 atEnd =
     record {
       now = freshSession;
-      text = text2 ++ text3 ++ asked3 ++ ascii "(get-model)\n(pop)\n(pop)\n" ++ asked2 ++ ascii "(pop)\n(pop)\n(pop)\n(pop)\n";
+      text = text2 ++ text3 ++ asked3 ++ ascii "(get-model)\n(pop 1)\n(pop 1)\n" ++ asked2 ++ ascii "(pop 1)\n(pop 1)\n(pop 1)\n(pop 1)\n";
       due = present 0 0 Nothing;
     }
 
@@ -204,9 +204,11 @@ levelsLive =
     ∷ (brought 4, live open3)
     ∷ (brought 6, live open2)
     ∷ (brought 8, live root)
+    -- without its numeral a push or a pop is a line like any other
+    ∷ (read (ascii "(push)\n(push 1)\n(pop)\n"), live (over (ascii "(pop)" ∷ []) (first (ascii "(push)" ∷ []))))
     -- a text that pops the first level loses the reader; a line that is not ended is a line too
-    ∷ (read (ascii "(push)\n(pop)\n(pop)\n(push)\n"), lost)
-    ∷ (read (ascii "a\n(push)\nb\n(check-sat)\n(pop)\n(get-model)\nb"), live (first (ascii "a" ∷ ascii "b" ∷ [])))
+    ∷ (read (ascii "(push 1)\n(pop 1)\n(pop 1)\n(push 1)\n"), lost)
+    ∷ (read (ascii "a\n(push 1)\nb\n(check-sat)\n(pop 1)\n(get-model)\nb"), live (first (ascii "a" ∷ ascii "b" ∷ [])))
     ∷ []
 
 pub live-hold : map (λ e. e .0) levelsLive ≡ map (λ e. e .1) levelsLive

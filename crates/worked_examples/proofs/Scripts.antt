@@ -22,7 +22,7 @@ outputs =
     -- the sample, a node that is not there, a call of no kind and another that is not reached. R 60, 61, 63
     (
       scriptOutput (input sample (1 ∷ 2 ∷ 0 ∷ 1 ∷ 3 ∷ 0 ∷ 2 ∷ 3 ∷ 18 ∷ 1 ∷ 4 ∷ 0 ∷ 3 ∷ 0 ∷ 0 ∷ 1 ∷ 0 ∷ 0 ∷ [])),
-      ascii "(push)\n(declare-fun x () Int)\n(assert (< 0 x))\n(push)\n(declare-fun y () Int)\n(declare-fun f (Int) Int)\n(assert (forall ((z Int)) (= (f z) z)))\n(assert (= y (f x)))\n(pop)\n(push)\n(assert (< x 9))\n(push)\n(declare-fun f (Int) Int)\n(assert (forall ((z Int)) (= (f z) z)))\n(declare-fun y () Int)\n(push)\n(assert (not (< 0 (f y))))\n(check-sat)\n(pop)\n(pop)\n; refused 7\n; stopped\n",
+      ascii "(push 1)\n(declare-fun x () Int)\n(assert (< 0 x))\n(push 1)\n(declare-fun y () Int)\n(declare-fun f (Int) Int)\n(assert (forall ((z Int)) (= (f z) z)))\n(assert (= y (f x)))\n(pop 1)\n(push 1)\n(assert (< x 9))\n(push 1)\n(declare-fun f (Int) Int)\n(assert (forall ((z Int)) (= (f z) z)))\n(declare-fun y () Int)\n(push 1)\n(assert (not (< 0 (f y))))\n(check-sat)\n(pop 1)\n(pop 1)\n; refused 7\n; stopped\n",
     )
     -- no length, and a book cut short. R 57
     ∷ (scriptOutput [], ascii "; stopped\n")

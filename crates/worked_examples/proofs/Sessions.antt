@@ -39,15 +39,15 @@ model : (room reasonRoom : ℕ) → Text → Option Text → Left
 model room reasonRoom text m = called sample (at 3 18 Model) (modelWith (host room reasonRoom) text m)
 
 pops : Text
-pops = ascii "(pop)\n(pop)\n"
+pops = ascii "(pop 1)\n(pop 1)\n"
 
 pub replies : List (Left × Left)
 unfolding everything books hosts at at2 reply failed model pops
 replies =
     -- unsat proves, and its reason buffer may have no room. R 27
     (reply 20 9 (ascii "unsat"), proves 20 9 (at 3 0 Nothing) pops)
-    ∷ (reply 12 0 (ascii "unsat"), proves 12 0 (at 3 0 Nothing) pops)
-    ∷ (reply 11 0 (ascii "unsat"), refuses 11 0 (at 3 18 Reply) 10)
+    ∷ (reply 16 0 (ascii "unsat"), proves 16 0 (at 3 0 Nothing) pops)
+    ∷ (reply 15 0 (ascii "unsat"), refuses 15 0 (at 3 18 Reply) 10)
     -- any other reply asks for the model, also one that only begins so, and an empty one. R 23, 42
     ∷ (reply 20 9 (ascii "sat"), writes 20 9 (at 3 18 Model) (ascii "(get-model)\n"))
     ∷ (reply 12 0 (ascii "unsat\n"), writes 12 0 (at 3 18 Model) (ascii "(get-model)\n"))
@@ -56,18 +56,18 @@ replies =
     -- a failed check is Unproved, also with the error text unsat, or none. R 43
     ∷ (failed 20 9 (ascii "unsat"), fails 20 9 (at 3 0 Nothing) pops (ascii "unsat"))
     ∷ (failed 20 9 [], fails 20 9 (at 3 0 Nothing) pops [])
-    ∷ (failed 12 5 (ascii "unsat"), fails 12 5 (at 3 0 Nothing) pops (ascii "unsat"))
-    ∷ (failed 12 4 (ascii "unsat"), refuses 12 4 (at 3 18 Reply) 10)
+    ∷ (failed 16 5 (ascii "unsat"), fails 16 5 (at 3 0 Nothing) pops (ascii "unsat"))
+    ∷ (failed 16 4 (ascii "unsat"), refuses 16 4 (at 3 18 Reply) 10)
     -- the reason is the reply, and if a model came a newline and the model, also an empty one. R 24, 44
     ∷ (model 20 20 (ascii "sat") (some (ascii "(model)")), fails 20 20 (at 3 0 Nothing) pops (ascii "sat\n(model)"))
     ∷ (model 20 20 (ascii "sat") none, fails 20 20 (at 3 0 Nothing) pops (ascii "sat"))
     ∷ (model 20 20 (ascii "sat") (some []), fails 20 20 (at 3 0 Nothing) pops (ascii "sat\n"))
-    ∷ (model 12 11 (ascii "sat") (some (ascii "(model)")), fails 12 11 (at 3 0 Nothing) pops (ascii "sat\n(model)"))
-    ∷ (model 12 10 (ascii "sat") (some (ascii "(model)")), refuses 12 10 (at 3 18 Model) 10)
-    ∷ (model 11 11 (ascii "sat") none, refuses 11 11 (at 3 18 Model) 10)
+    ∷ (model 16 11 (ascii "sat") (some (ascii "(model)")), fails 16 11 (at 3 0 Nothing) pops (ascii "sat\n(model)"))
+    ∷ (model 16 10 (ascii "sat") (some (ascii "(model)")), refuses 16 10 (at 3 18 Model) 10)
+    ∷ (model 15 11 (ascii "sat") none, refuses 15 11 (at 3 18 Model) 10)
     -- unsat is no reply to give with a model: 8, before 10
     ∷ (model 0 0 (ascii "unsat") none, refuses 0 0 (at 3 18 Model) 8)
-    ∷ (model 12 9 (ascii "unsat\n") none, fails 12 9 (at 3 0 Nothing) pops (ascii "unsat\n"))
+    ∷ (model 16 9 (ascii "unsat\n") none, fails 16 9 (at 3 0 Nothing) pops (ascii "unsat\n"))
     -- what is not owed: 21, 22, 23, before 8 and 10. R 22
     ∷ (called sample (at 3 18 Model) (replyWith (host 0 0) true (ascii "unsat")), refuses 0 0 (at 3 18 Model) 22)
     ∷ (called sample (at 3 18 Reply) (modelWith (host 0 0) (ascii "unsat") none), refuses 0 0 (at 3 18 Reply) 23)
@@ -82,49 +82,49 @@ replies-hold = refl
 -- ---- SESSIONS THAT NO FRESH ONE COMES TO
 -- a move to the root, with room for two pops
 home : Session → Left
-home s = called sample s (moveTo (host 12 0) 0)
+home s = called sample s (moveTo (host 16 0) 0)
 
 pub strangers : List (Left × Left)
 unfolding everything books hosts at at2 home pops
 strangers =
-    (home at2, writes 12 0 freshSession pops)
+    (home at2, writes 16 0 freshSession pops)
     -- node 1 has the levels of node 3, and both are sessions. R 36
-    ∷ (home (at 1 0 Nothing), writes 12 0 freshSession (ascii "(pop)\n"))
+    ∷ (home (at 1 0 Nothing), writes 16 0 freshSession (ascii "(pop 1)\n"))
     -- nor node 2 nor the root has them, nor is there a node 4: 20, and 7 only for the call's own node. R 19, 29
-    ∷ (home (at 2 0 Nothing), refuses 12 0 (at 2 0 Nothing) 20)
-    ∷ (home (at 0 0 Nothing), refuses 12 0 (at 0 0 Nothing) 20)
-    ∷ (home (at 4 0 Nothing), refuses 12 0 (at 4 0 Nothing) 20)
-    ∷ (called sample (at 4 0 Nothing) (moveTo (host 12 0) 4), refuses 12 0 (at 4 0 Nothing) 7)
+    ∷ (home (at 2 0 Nothing), refuses 16 0 (at 2 0 Nothing) 20)
+    ∷ (home (at 0 0 Nothing), refuses 16 0 (at 0 0 Nothing) 20)
+    ∷ (home (at 4 0 Nothing), refuses 16 0 (at 4 0 Nothing) 20)
+    ∷ (called sample (at 4 0 Nothing) (moveTo (host 16 0) 4), refuses 16 0 (at 4 0 Nothing) 7)
     -- from another book
-    ∷ (called small at2 (moveTo (host 12 0) 0), refuses 12 0 at2 20)
+    ∷ (called small at2 (moveTo (host 16 0) 0), refuses 16 0 at2 20)
     -- another level; a level more, at a term that is no literal. R 34
     ∷ (
       home (session 3 0 Nothing (levels ((constantPlaces + 0, 2) ∷ []))),
-      refuses 12 0 (session 3 0 Nothing (levels ((constantPlaces + 0, 2) ∷ []))) 20,
+      refuses 16 0 (session 3 0 Nothing (levels ((constantPlaces + 0, 2) ∷ []))) 20,
     )
     ∷ (
       home (session 3 0 Nothing (levels ((constantPlaces + 0, 1) ∷ (literalPlaces + 0, 1) ∷ []))),
-      refuses 12 0 (session 3 0 Nothing (levels ((constantPlaces + 0, 1) ∷ (literalPlaces + 0, 1) ∷ []))) 20,
+      refuses 16 0 (session 3 0 Nothing (levels ((constantPlaces + 0, 1) ∷ (literalPlaces + 0, 1) ∷ []))) 20,
     )
     -- a goal where none is open; one that is not in the book, before 22 and before 21. R 32
-    ∷ (home (at 3 18 Nothing), refuses 12 0 (at 3 18 Nothing) 20)
+    ∷ (home (at 3 18 Nothing), refuses 16 0 (at 3 18 Nothing) 20)
     ∷ (
-      called sample (at 3 19 Model) (replyWith (host 12 0) true (ascii "unsat")),
-      refuses 12 0 (at 3 19 Model) 20,
+      called sample (at 3 19 Model) (replyWith (host 16 0) true (ascii "unsat")),
+      refuses 16 0 (at 3 19 Model) 20,
     )
-    ∷ (home (at 3 19 Reply), refuses 12 0 (at 3 19 Reply) 20)
-    ∷ (home (at 3 18 Reply), refuses 12 0 (at 3 18 Reply) 21)
+    ∷ (home (at 3 19 Reply), refuses 16 0 (at 3 19 Reply) 20)
+    ∷ (home (at 3 18 Reply), refuses 16 0 (at 3 18 Reply) 21)
     -- a book without terms has no open question. R 32
     ∷ (
-      called empty (session 0 0 Reply (levels [])) (replyWith (host 12 0) true (ascii "unsat")),
-      refuses 12 0 (session 0 0 Reply (levels [])) 20,
+      called empty (session 0 0 Reply (levels [])) (replyWith (host 16 0) true (ascii "unsat")),
+      refuses 16 0 (session 0 0 Reply (levels [])) 20,
     )
     -- before all that: short scratch, which stays as it is, and a bad book
     ∷ (
-      called [] (at 4 0 Nothing) (moveTo (record { scratch = replicate 1023 0x55; text = blank 12; reason = [] }) 4),
-      record { answer = refused 1; session = at 4 0 Nothing; text = blank 12; reason = []; scratch = replicate 1023 0x55 },
+      called [] (at 4 0 Nothing) (moveTo (record { scratch = replicate 1023 0x55; text = blank 16; reason = [] }) 4),
+      record { answer = refused 1; session = at 4 0 Nothing; text = blank 16; reason = []; scratch = replicate 1023 0x55 },
     )
-    ∷ (called [] (at 4 0 Nothing) (moveTo (host 12 0) 4), refuses 12 0 (at 4 0 Nothing) 2)
+    ∷ (called [] (at 4 0 Nothing) (moveTo (host 16 0) 4), refuses 16 0 (at 4 0 Nothing) 2)
     ∷ []
 
 pub strangers-hold : map (λ e. e .0) strangers ≡ map (λ e. e .1) strangers
@@ -137,16 +137,16 @@ image kind node goal owed = bytes32 (kind ∷ node ∷ goal ∷ owed ∷ []) ++ 
 
 -- the reply unsat to an image
 unsat : List ℕ → ImageLeft
-unsat bytes = calledOnImage sample bytes (replyWith (host 12 0) true (ascii "unsat"))
+unsat bytes = calledOnImage sample bytes (replyWith (host 16 0) true (ascii "unsat"))
 
 -- no session: the bytes as they were
 stays : ℕ → List ℕ → ImageLeft
-stays n bytes = record { answer = refused n; image = bytes; text = blank 12; reason = []; scratch = clean }
+stays n bytes = record { answer = refused n; image = bytes; text = blank 16; reason = []; scratch = clean }
 
 pub images : List (ImageLeft × ImageLeft)
 unfolding everything books hosts pops image unsat stays
 images =
-    (unsat (image 1 3 18 1), record { answer = accepted (proved 12); image = image 1 3 0 0; text = pops; reason = []; scratch = clean })
+    (unsat (image 1 3 18 1), record { answer = accepted (proved 16); image = image 1 3 0 0; text = pops; reason = []; scratch = clean })
     ∷ (unsat (image 1 3 18 2), stays 22 (image 1 3 18 2))
     -- another kind, a third thing owed, a byte too few or too many, none at all. R 32
     ∷ (unsat (image 2 3 18 1), stays 20 (image 2 3 18 1))
