@@ -31,8 +31,6 @@ enum context_field { CONTEXT_PARENT, CONTEXT_TERM };
 enum term_field {
     TERM_KIND,
     BOOLEAN_VALUE = 1,
-    INTEGER_LOW = 1,
-    INTEGER_HIGH = 2,
     LITERAL_NAME = 1,
     LITERAL_TYPE = 2,
     ID_CONSTANT = 1,

@@ -1,5 +1,6 @@
 #include "engines.h"
 
+#include <stdbool.h>
 #include <stddef.h>
 #include <string.h>
 #include <unistd.h>
@@ -12,9 +13,9 @@ struct known {
 
 static const struct known KNOWN[] = {
     /* z3 reads SMT-LIB from its standard input. */
-    {"z3", {{"z3", "-smt2", "-in", NULL}, false}},
+    {"z3", {{"z3", "-smt2", "-in", NULL}}},
     /* cvc5 has to be told of pushes, of models, and which theories to have ready; without the last it warns. */
-    {"cvc5", {{"cvc5", "--lang=smt2", "--incremental", "--produce-models", "--force-logic=ALL", NULL}, true}}};
+    {"cvc5", {{"cvc5", "--lang=smt2", "--incremental", "--produce-models", "--force-logic=ALL", NULL}}}};
 enum { KNOWN_COUNT = sizeof KNOWN / sizeof KNOWN[0] };
 
 static const char BLANKS[] = " \t";
@@ -68,7 +69,7 @@ struct engine engine_named(const char *name) {
         }
     }
     if (is_program(name)) {
-        return (struct engine){{"/bin/sh", "-c", BECOME, "/bin/sh", name, NULL}, false};
+        return (struct engine){{"/bin/sh", "-c", BECOME, "/bin/sh", name, NULL}};
     }
-    return (struct engine){{"/bin/sh", "-c", name, NULL}, false};
+    return (struct engine){{"/bin/sh", "-c", name, NULL}};
 }

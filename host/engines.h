@@ -2,14 +2,10 @@
 #ifndef ENGINES_H
 #define ENGINES_H
 
-#include <stdbool.h>
-
 enum { ENGINE_MOST_WORDS = 8 };
 
 struct engine {
     const char *command[ENGINE_MOST_WORDS]; /* NULL behind the last word */
-    /* Whether the solver takes -5 for a name, as SMT-LIB 2.6 has it, and not for a number. */
-    bool reads_negatives_as_names;
 };
 
 /* What `--solver` names: z3 or cvc5, alone or with the path to it, or a command for the shell. The name must stay as long as the engine. */

@@ -1,7 +1,6 @@
 #include "prove.h"
 
 #include "faults.h"
-#include "negatives.h"
 
 #include <inttypes.h>
 #include <stdio.h>
@@ -73,8 +72,8 @@ static struct result failed(struct prover *prover) {
 /* Whether a solver is there that can be asked; a new one is told first what it has to know. */
 static bool has_solver(struct prover *prover) {
     struct conversation *talk = &prover->talk;
-    const struct bytes *first = &prover->first;
-    return talk->is_open || (conversation_begin(talk, &prover->engine) && conversation_tell(talk, first->at, first->length));
+    return talk->is_open ||
+           (conversation_begin(talk, &prover->engine) && conversation_tell(talk, (const uint8_t *)OPTIONS, sizeof OPTIONS - 1));
 }
 
 /* Sends the writer's text to the solver, and waits for the answer. */
@@ -174,16 +173,13 @@ struct result prover_ask(struct prover *prover, const struct question *question)
     return refusal == LESKOFAR_ACCEPTED ? put(prover) : (struct result){.verdict = VERDICT_REFUSED, .refusal = refusal};
 }
 
-bool prover_begin(struct prover *prover, struct writer *writer, const struct engine *engine, const struct limits *limits,
+void prover_begin(struct prover *prover, struct writer *writer, const struct engine *engine, const struct limits *limits,
                   struct log *log) {
     *prover = (struct prover){.writer = writer, .engine = *engine, .talk = {.limits = *limits, .log = log}};
-    return bytes_add_text(&prover->first, OPTIONS) &&
-           (!engine->reads_negatives_as_names || negatives_define(&writer->book, &prover->first));
 }
 
 void prover_end(struct prover *prover) {
     conversation_free(&prover->talk);
-    bytes_free(&prover->first);
     bytes_free(&prover->reply);
     bytes_free(&prover->failure);
 }

@@ -31,13 +31,11 @@ struct prover {
     struct writer *writer; /* with a book that passes the book test */
     struct engine engine;
     struct conversation talk;
-    struct bytes first;   /* what a new solver is told before anything else */
     struct bytes reply;   /* kept until the model has come */
     struct bytes failure; /* what went wrong with the last question */
 };
 
-/* False where the memory does not suffice. */
-bool prover_begin(struct prover *prover, struct writer *writer, const struct engine *engine, const struct limits *limits,
+void prover_begin(struct prover *prover, struct writer *writer, const struct engine *engine, const struct limits *limits,
                   struct log *log);
 struct result prover_ask(struct prover *prover, const struct question *question);
 void prover_end(struct prover *prover);

@@ -117,12 +117,8 @@ static enum status ask_all(const struct request *request, struct premises_known 
     struct prover prover;
     const struct engine engine = engine_named(request->solver);
     const struct limits limits = {request->seconds, request->mib * BYTES_PER_MIB};
-    enum status status = STATUS_SOLVER_FAILED;
-    if (prover_begin(&prover, writer, &engine, &limits, log)) {
-        status = ask_each(request, known, &prover);
-    } else {
-        complain("the memory does not suffice");
-    }
+    prover_begin(&prover, writer, &engine, &limits, log);
+    enum status status = ask_each(request, known, &prover);
     prover_end(&prover);
     return status;
 }

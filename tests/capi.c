@@ -28,6 +28,28 @@ static size_t small_book(uint8_t *book) {
     return write_book(book, "xand%tag", sections);
 }
 
+/*
+ * Numbers, each a term: 0 and what stands around it, then the ends of the range. Behind them the arguments of (+ -5 %tag) and that sum,
+ * and 5 with a minus applied to it.
+ */
+enum { NUMBERS = 7, SUM_TERM = 9, MINUS_TERM = 11, NUMBER_TERMS = 12 };
+
+static size_t number_book(uint8_t *book) {
+    static const uint32_t names[] = {0, 1, 1, 1, 2, 4};
+    static const uint32_t terms[NUMBER_TERMS][7] = {
+        {1, 0}, {1, 1}, {1, UINT32_MAX, UINT32_MAX}, {1, 5}, {1, (uint32_t)-5, UINT32_MAX}, /* 0, 1, -1, 5, -5 */
+        {1, UINT32_MAX, INT32_MAX}, {1, 0, (uint32_t)INT32_MIN},                            /* 2^63 - 1, -2^63 */
+        {1, (uint32_t)-5, UINT32_MAX}, {2, 2, 1}, {4, 0, 0, 2},                             /* (+ -5 %tag) */
+        {1, 5}, {4, 1, 2, 1},                                                               /* (- 5) */
+    };
+    static const uint32_t lists[] = {7, 8, 10};
+    const struct section sections[SECTIONS - 1] = {
+        {names, 3, 2}, {NULL, 0, 0},                {NULL, 0, 0}, {NULL, 0, 0}, {NULL, 0, 0},
+        {NULL, 0, 0},  {terms[0], NUMBER_TERMS, 7}, {NULL, 0, 0}, {lists, 3, 1},
+    };
+    return write_book(book, "+-%tag", sections);
+}
+
 static void book_tests(void) {
     uint8_t book[CONTENTS];
     uint8_t scratch[LESKOFAR_SCRATCH + 1];
@@ -72,6 +94,11 @@ static void set_up(struct desk *d) {
     memset(d->text, FILL, sizeof d->text);
 }
 
+static void set_up_numbers(struct desk *d) {
+    set_up(d);
+    d->book_len = number_book(d->book);
+}
+
 static leskofar_printed print_in(struct desk *d, uint32_t term, uint32_t newlines, uint64_t indent, size_t room) {
     return leskofar_print(d->book, d->book_len, d->scratch, sizeof d->scratch, term, TAG, newlines, indent, d->text, room);
 }
@@ -114,6 +141,45 @@ static void print_tests(void) {
     d.book_len--;
     expect("a book cut short, to print", refused(print_in(&d, AND_TERM, 0, 0, TEXT_SIZE), LESKOFAR_BAD_CONTENTS));
     expect("refused calls leave the text alone", all_are(d.text, sizeof d.text, FILL));
+}
+
+/* A negative number is a minus applied to a numeral, and on lines broken like any row; every other number is a numeral. */
+static void number_tests(void) {
+    static const char *const texts[NUMBERS] = {"0", "1", "(- 1)", "5", "(- 5)", "9223372036854775807", "(- 9223372036854775808)"};
+    static const char *const on_lines[NUMBERS] = {"0", "1", "(-\n     1)", "5", "(-\n     5)", "9223372036854775807",
+                                                  "(-\n     9223372036854775808)"};
+    const uint64_t indent = 3;
+    struct desk d;
+
+    for (uint32_t term = 0; term < NUMBERS; term++) {
+        const size_t fitting = strlen(texts[term]);
+        set_up_numbers(&d);
+        expect("a number with a byte less", refused(print_in(&d, term, 0, indent, fitting - 1), LESKOFAR_BUFFER_TOO_SHORT));
+        expect("it leaves the text alone", all_are(d.text, sizeof d.text, FILL));
+        expect("a number on one line", wrote(print_in(&d, term, 0, indent, fitting), d.text, texts[term]));
+        set_up_numbers(&d);
+        expect("a number on lines", wrote(print_in(&d, term, 1, indent, TEXT_SIZE), d.text, on_lines[term]));
+    }
+    set_up_numbers(&d);
+    expect("a minus applied to 5", wrote(print_in(&d, MINUS_TERM, 0, indent, TEXT_SIZE), d.text, "(- 5)"));
+}
+
+/* %tag is a numeral, also where a signed number would be negative. */
+static void tag_tests(void) {
+    static const char *const texts[] = {"(+ (- 5) 9223372036854775808)", "(+\n     (-\n       5)\n     9223372036854775808)"};
+    static const char listed[] = "----- Proof obligation:\n  |-\n  +(-5, %tag:int)\n";
+    const uint64_t tag = (uint64_t)1 << 63;
+    const uint64_t indent = 3;
+    struct desk d;
+
+    for (uint32_t newlines = 0; newlines < 2; newlines++) {
+        set_up_numbers(&d);
+        expect("a negative number beside a tag", wrote(leskofar_print(d.book, d.book_len, d.scratch, sizeof d.scratch, SUM_TERM, tag,
+                                                                      newlines, indent, d.text, TEXT_SIZE),
+                                                       d.text, texts[newlines]));
+    }
+    set_up_numbers(&d);
+    expect("a listing has the minus at the number", wrote(listing_in(&d, 0, SUM_TERM, TEXT_SIZE), d.text, listed));
 }
 
 static void trace_tests(void) {
@@ -191,6 +257,8 @@ static void operator_tests(void) {
 int main(void) {
     book_tests();
     print_tests();
+    number_tests();
+    tag_tests();
     trace_tests();
     listing_tests();
     refused_listing_tests();

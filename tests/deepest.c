@@ -30,7 +30,7 @@ static void put(const char *directory, const char *place, size_t shape, struct w
 int main(int count, char **arguments) {
     stop_if(count != 2, "without a directory");
     for (size_t i = 0; i < sizeof shapes / sizeof shapes[0]; i++) {
-        put(arguments[1], "node", i, write_nest(book, &shapes[i]));
+        put(arguments[1], "node", i, write_nest(book, &shapes[i], leaf));
         put(arguments[1], "axiom", i, write_axioms(book, &shapes[i], 1));
         put(arguments[1], "axioms", i, write_axioms(book, &shapes[i], MOST_AXIOMS));
         put(arguments[1], "own", i, write_own_axiom(book, &shapes[i]));

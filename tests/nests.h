@@ -15,6 +15,7 @@ enum {
     AXIOM_FIELDS = 3,
     TERM_FIELDS = 7,
     CONTEXT_FIELDS = 3,
+    INTEGER = 1,
     ID = 3,
     BUILT_IN = 4,
     FUNCTION = 5,
@@ -60,6 +61,11 @@ static inline uint32_t add_term(struct nest *n, const uint32_t fields[TERM_FIELD
 
 static inline uint32_t leaf(struct nest *n) {
     return add_term(n, (const uint32_t[TERM_FIELDS]){ID, ONE});
+}
+
+/* It is printed as a row of its own, and as long as a number can be. */
+static inline uint32_t least_number(struct nest *n) {
+    return add_term(n, (const uint32_t[TERM_FIELDS]){INTEGER, 0, (uint32_t)INT32_MIN});
 }
 
 static inline uint32_t add_entry(struct nest *n, uint32_t entry) {
@@ -173,11 +179,11 @@ static inline struct written write_out(uint8_t *book, const struct nest *n) {
     return (struct written){write_book(book, "v", sections), (uint32_t)n->context_count, (uint32_t)n->term_count - 1};
 }
 
-/* A nest of one shape in a node: the last term has all the others in it. */
-static inline struct written write_nest(uint8_t *book, const struct shape *s) {
+/* A nest of one shape around an innermost term, in a node: the last term has all the others in it. */
+static inline struct written write_nest(uint8_t *book, const struct shape *s, uint32_t (*innermost)(struct nest *)) {
     static struct nest n;
     begin_nest(&n);
-    add_node(&n, 0, nest_around(&n, s, leaf(&n), MOST_TERMS));
+    add_node(&n, 0, nest_around(&n, s, innermost(&n), MOST_TERMS));
     return write_out(book, &n);
 }
 

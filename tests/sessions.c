@@ -4,7 +4,7 @@
 #include <leskofar.h>
 #include <string.h>
 
-enum { FILL = 0xA5, BOOK_SIZE = 1024, TEXT_SIZE = 256 };
+enum { FILL = 0xA5, BOOK_SIZE = 1024, TEXT_SIZE = 256, TWO_POPS = 16 };
 
 /* The book of document 01's session: nodes 1 to 3, and the goal that is asked at node 3. */
 enum { GOAL = 18, SAMPLE_TERMS = 19, SAMPLE_NODES = 3 };
@@ -84,12 +84,12 @@ static int led_to(struct host *h, leskofar_answer answer, uint32_t result, const
     return holds;
 }
 
-static const char move_2[] = "(push)\n(declare-fun x () Int)\n(assert (< 0 x))\n(push)\n(declare-fun y () Int)\n"
+static const char move_2[] = "(push 1)\n(declare-fun x () Int)\n(assert (< 0 x))\n(push 1)\n(declare-fun y () Int)\n"
                              "(declare-fun f (Int) Int)\n(assert (forall ((z Int)) (= (f z) z)))\n(assert (= y (f x)))\n";
-static const char move_3[] = "(pop)\n(push)\n(assert (< x 9))\n";
-static const char ask_3[] = "(push)\n(declare-fun f (Int) Int)\n(assert (forall ((z Int)) (= (f z) z)))\n(declare-fun y () Int)\n"
-                            "(push)\n(assert (not (< 0 (f y))))\n(check-sat)\n";
-static const char end[] = "(pop)\n(pop)\n";
+static const char move_3[] = "(pop 1)\n(push 1)\n(assert (< x 9))\n";
+static const char ask_3[] = "(push 1)\n(declare-fun f (Int) Int)\n(assert (forall ((z Int)) (= (f z) z)))\n(declare-fun y () Int)\n"
+                            "(push 1)\n(assert (not (< 0 (f y))))\n(check-sat)\n";
+static const char end[] = "(pop 1)\n(pop 1)\n";
 static const char get_model[] = "(get-model)\n";
 
 static void run_tests(void) {
@@ -154,6 +154,65 @@ static void refusal_tests(void) {
     expect("a model for unsat", left_alone(&h, before, model(&h, "unsat", NULL), LESKOFAR_REPLY_IS_UNSAT));
 }
 
+/* Calls whose text is two pops. */
+static leskofar_answer reply_unsat(struct host *h) {
+    return reply(h, 1, "unsat");
+}
+
+static leskofar_answer reply_failed(struct host *h) {
+    return reply(h, 0, "late");
+}
+
+static leskofar_answer give_model(struct host *h) {
+    return model(h, "sat", "(x 1)");
+}
+
+static leskofar_answer give_no_model(struct host *h) {
+    return model(h, "sat", NULL);
+}
+
+static leskofar_answer move_to_root(struct host *h) {
+    return move_to(h, 0);
+}
+
+/* With room for one byte less than the two pops the call is refused and leaves everything as it was; with just that room it is not. */
+static void expect_two_pops(const char *name, struct host *h, leskofar_answer (*call)(struct host *), uint32_t result,
+                            const char *reason) {
+    uint8_t before[LESKOFAR_IMAGE];
+
+    memcpy(before, h->image, sizeof before);
+    h->text_len = TWO_POPS - 1;
+    expect(name, left_alone(h, before, call(h), LESKOFAR_BUFFER_TOO_SHORT));
+    h->text_len = TWO_POPS;
+    expect(name, led_to(h, call(h), result, end, reason));
+    h->text_len = sizeof h->text;
+}
+
+/* Asks, and where a model is to be given replies first. */
+static void open_question(struct host *h, int is_model_owed) {
+    expect("a question to close", led_to(h, ask(h, 3, GOAL), LESKOFAR_WRITTEN, ask_3, ""));
+    if (is_model_owed) {
+        expect("its model is owed", led_to(h, reply(h, 1, "sat"), LESKOFAR_WRITTEN, get_model, ""));
+    }
+}
+
+static void pop_tests(void) {
+    struct host h;
+
+    start(&h);
+    expect("down two levels", led_to(&h, move_to(&h, 2), LESKOFAR_WRITTEN, move_2, ""));
+    expect("and beside", led_to(&h, move_to(&h, 3), LESKOFAR_WRITTEN, move_3, ""));
+    open_question(&h, 0);
+    expect_two_pops("two pops behind unsat", &h, reply_unsat, LESKOFAR_PROVED, "");
+    open_question(&h, 0);
+    expect_two_pops("two pops behind a failed check", &h, reply_failed, LESKOFAR_UNPROVED, "late");
+    open_question(&h, 1);
+    expect_two_pops("two pops behind a model", &h, give_model, LESKOFAR_UNPROVED, "sat\n(x 1)");
+    open_question(&h, 1);
+    expect_two_pops("two pops behind no model", &h, give_no_model, LESKOFAR_UNPROVED, "sat");
+    expect_two_pops("two pops up to the root", &h, move_to_root, LESKOFAR_WRITTEN, "");
+}
+
 /* NULL stands for every empty buffer. */
 static void null_tests(void) {
     const leskofar_answer nothing = leskofar_move(NULL, 0, NULL, 0, NULL, 0, 0, NULL, 0);
@@ -188,6 +247,7 @@ static void null_tests(void) {
 int main(void) {
     run_tests();
     refusal_tests();
+    pop_tests();
     null_tests();
     return close_tests();
 }

@@ -158,14 +158,21 @@ static void measure_session(struct given g) {
     measure("ask", g, LESKOFAR_SESSION_STACK, ask_at_root, written.term);
 }
 
+/* Of the book just written: its last term in both layouts and listed, and its last node's premises. */
+static void measure_texts(struct given g) {
+    measure("print", g, LESKOFAR_STACK, print_line, written.term);
+    measure("print on lines", g, LESKOFAR_STACK, print_lines, written.term);
+    measure("listing of a goal", g, LESKOFAR_STACK, list_at_root, written.term);
+    measure("listing of a premise", g, LESKOFAR_STACK, list_premises, written.node);
+}
+
 static void measure_shape(const struct shape *s) {
     const struct given in_node = {s->name, "in a node"};
-    written = write_nest(book, s);
-    measure("print", in_node, LESKOFAR_STACK, print_line, written.term);
-    measure("print on lines", in_node, LESKOFAR_STACK, print_lines, written.term);
-    measure("listing of a goal", in_node, LESKOFAR_STACK, list_at_root, written.term);
-    measure("listing of a premise", in_node, LESKOFAR_STACK, list_premises, written.node);
+    written = write_nest(book, s, leaf);
+    measure_texts(in_node);
     measure_session(in_node);
+    written = write_nest(book, s, least_number);
+    measure_texts((struct given){s->name, "around a negative number"});
     written = write_axioms(book, s, 1);
     measure_session((struct given){s->name, "in an axiom"});
     written = write_axioms(book, s, MOST_AXIOMS);

@@ -9,7 +9,7 @@ for solver in z3 cvc5; do
     path=$(command -v "$solver") || exit 1
     ln -sf "$path" "$work/my solvers/$solver"
     for named in "$path" "$work/my solvers/$solver" "$work/../$(basename "$work")/my solvers/$solver"; do
-        # Negative numbers and models: without its own options cvc5 has neither.
+        # A model: without its own options cvc5 has none.
         # shellcheck disable=SC2086
         run prove "$book" $pairs --solver "$named"
         expect "$named" 1 '(define-fun box_3 () Int'

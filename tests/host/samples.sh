@@ -12,6 +12,22 @@ expect_listings() { # name file
 # A log without what is each run's own.
 unmarked() { sed 's/"leskofar-[0-9a-f]*-/"mark-/' "$1"; }
 
+# A log without what came back: what the solver was sent.
+sent() { unmarked "$1" | grep -v '^;'; }
+
+# What the solver was sent is strict SMT-LIB 2.6: levels are counted, a number has no minus of its own, and no name is defined as one.
+expect_strict() { # name log
+    sent "$2" >"$work/sent"
+    loose=$(grep -E '\((push|pop)\)|(^|[( ])-[0-9]|\(define-' "$work/sent")
+    if [ -n "$loose" ]; then
+        fail "$1" "not strict: $loose"
+    elif grep -qx '(push 1)' "$work/sent" && grep -qx '(pop 1)' "$work/sent"; then
+        passed=$((passed + 1))
+    else
+        fail "$1" 'no level is counted'
+    fi
+}
+
 # The sample once more, with listings: nothing else changes.
 sample_listed() { # name status
     cp "$out" "$work/plain"
@@ -32,6 +48,7 @@ for solver in z3 cvc5; do
         run prove "$work/$1.book" $pairs --solver "$solver" --log "$work/$1.log"
         expect "$1 with $solver" "$2"
         expect_results "$1 with $solver" "$3"
+        expect_strict "$1 with $solver" "$work/$1.log"
         sample_listed "$1" "$2"
     }
     sample limit_proved 0 'Proved'
@@ -43,6 +60,7 @@ for solver in z3 cvc5; do
     sample open_step 1 'Proved Unproved Proved'
     sample patterns 1 'Proved Proved Unproved'
     sample shades 1 'Proved Unproved Proved Unproved'
+    sample zero_point 1 'Proved Proved Unproved Proved'
 
     book_of siblings
     run prove "$work/siblings.book" 4 34 --solver "$solver"
@@ -58,7 +76,7 @@ for solver in z3 cvc5; do
     expect "premises with $solver and listings" 1
     expect_listings "premises with $solver and listings" tests/host/listings/siblings.txt
 
-    # Negative numbers, the least one too: z3 reads -5 as a number, for cvc5 the host defines the name.
+    # Negative numbers, the least one too. Both solvers are sent the same: the library's text, and nothing around it but options and marks.
     cat >"$work/negative.plan" <<'PLAN'
 (constant x Int)
 (node below root (and (< x -5) (< -9223372036854775808 x) (not (= x -5))))
@@ -68,10 +86,31 @@ for solver in z3 cvc5; do
 PLAN
     "$TOOLS/plan" book "$work/negative.plan" -o "$work/negative.book" --goals >"$work/negative.goals" || exit 1
     # shellcheck disable=SC2046
-    run prove "$work/negative.book" $(cut -d ' ' -f 1,2 "$work/negative.goals") --solver "$solver" --show-proof-obligations
+    run prove "$work/negative.book" $(cut -d ' ' -f 1,2 "$work/negative.goals") --solver "$solver" --show-proof-obligations \
+        --log "$work/negative.log"
     expect "negative numbers with $solver" 1
     expect_results "negative numbers with $solver" 'Proved Proved Unproved'
     expect_listings "negative numbers with $solver" tests/host/listings/negative.txt
+    expect_strict "negative numbers with $solver" "$work/negative.log"
+    cmp -s "$work/sent" tests/host/sent/negative.smt2 && passed=$((passed + 1)) ||
+        fail "negative numbers with $solver" "another text: $(diff "$work/sent" tests/host/sent/negative.smt2 | head -5)"
+
+    # A constant may be called -5, which is not the number: cvc5 takes it, and z3 between bars.
+    for called in '-5' '|-5|'; do
+        printf '(constant c Int :name "%s")\n(node n root (= c 7))\n(goal differs n (not (= c -5)))\n(goal is_the_number n (= c -5))\n' \
+            "$called" >"$work/called.plan"
+        "$TOOLS/plan" book "$work/called.plan" -o "$work/called.book" --goals --raw-names >"$work/called.goals" 2>"$err" || exit 1
+        # shellcheck disable=SC2046
+        run prove "$work/called.book" $(cut -d ' ' -f 1,2 "$work/called.goals") --solver "$solver" --raw-names
+        case "$solver $called" in
+            'z3 -5')
+                expect "a constant called $called with $solver" 3 '(error "' 'symbol expected'
+                expect_results "a constant called $called with $solver" 'Unproved Unproved' ;;
+            *)
+                expect "a constant called $called with $solver" 1
+                expect_results "a constant called $called with $solver" 'Proved Unproved' ;;
+        esac
+    done
 
     # Quantifiers with patterns and without, of built-in types and of a plan's own, and names with bars.
     cat >"$work/quantifiers.plan" <<'PLAN'
@@ -131,7 +170,7 @@ expect_results 'an axiom without a term' 'refused Proved'
 expect_listings 'an axiom without a term' tests/host/listings/lost.txt
 
 # What is said of nodes.
-for sample in limit_proved limit_not_proved siblings distance_axiom open_step patterns shades; do
+for sample in limit_proved limit_not_proved siblings distance_axiom open_step patterns shades zero_point; do
     book_of "$sample"
     run nodes "$work/$sample.book"
     expect_said "nodes of $sample" 0 "$(grep -c '^(node ' "samples/$sample.plan") nodes can be reached"

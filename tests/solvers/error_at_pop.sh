@@ -3,7 +3,7 @@
 . "${0%/*}/common.sh"
 at_other() {
     case $1 in
-        '(pop)') echo '(error "no level")' ;;
+        '(pop 1)') echo '(error "no level")' ;;
     esac
 }
 serve

@@ -119,8 +119,8 @@ impl Mutation<'_> {
         None
     }
 
-    /// A name that the solver sees already: of an item, of a literal, or a
-    /// negative number's.
+    /// A name that the solver sees already: of an item or of a literal; or one
+    /// that z3 takes for a number.
     fn seen_name(&mut self) -> Option<String> {
         if self.random.one_in(RARELY) {
             return Some(self.random.pick(&PRINTED_LITERALS).into());

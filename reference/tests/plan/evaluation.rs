@@ -16,10 +16,10 @@ type Choice = HashMap<usize, Value>;
 /// A number that no box has, farther off than any limit.
 const FAR: i64 = 10_000;
 
-/// The boxes, their neighbours and a number far off: enough to tell whether
-/// a limit on a chain of boxes holds.
+/// The boxes, as many on the other side of zero, their neighbours and a number
+/// far off: enough to tell whether a limit on a chain of boxes holds.
 fn domain() -> impl Iterator<Item = i64> {
-    (BOXES.start() - 1..=BOXES.end() + 1).chain([FAR])
+    (-BOXES.end() - 1..=BOXES.end() + 1).chain([FAR])
 }
 
 /// No choice has all premises of the node and not the goal.

@@ -9,7 +9,7 @@ use std::fs;
 use std::path::PathBuf;
 
 /// Each sample's goals with what its comments say: proved or not.
-const GOALS: [(&str, &[(&str, bool)]); 7] = [
+const GOALS: [(&str, &[(&str, bool)]); 8] = [
     (
         "distance_axiom",
         &[("travels_at_most_8", true), ("travels_at_most_7", false)],
@@ -54,6 +54,15 @@ const GOALS: [(&str, &[(&str, bool)]); 7] = [
             ("near_travels_at_most_3", true),
             ("far_travels_at_most_3", false),
             ("near_again_travels_at_most_3", true),
+        ],
+    ),
+    (
+        "zero_point",
+        &[
+            ("step_2_brings_box_minus_3", true),
+            ("travels_at_most_7", true),
+            ("travels_at_most_6", false),
+            ("ends_at_least_three_to_the_left", true),
         ],
     ),
 ];
