@@ -140,7 +140,7 @@ module _ (b : Book) where
   unfolding rowOf lengthˢ rowLength functionOf
   row-length tag (row.Negation t) = refl
   row-length tag (row.Minus n) = refl
-  row-length tag (row.Appl op t) = omega (arith, terms-length b tag (field b terms t 2) (field b terms t 3))
+  row-length tag (row.Appl t op) = omega (arith, terms-length b tag (field b terms t 2) (field b terms t 3))
   row-length tag (row.Ite t) = refl
   row-length tag (row.Let t) = refl
   row-length tag (row.Bindings t) = refl

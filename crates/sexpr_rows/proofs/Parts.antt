@@ -51,16 +51,16 @@ module _ (b : Book) where
   minus-rest n (suc (suc i)) r z = absurd (omega (arith, r .within))
 
   -- (op args)
-  pub appl-head : (op : SName) (t : ℕ) {i : ℕ} → ReadyPlace b (row.Appl op t) i → i ≡ 0 → Element b (row.Appl op t) i (part.Known (value.S op))
+  pub appl-head : (op : SName) (t : ℕ) {i : ℕ} → ReadyPlace b (row.Appl t op) i → i ≡ 0 → Element b (row.Appl t op) i (part.Known (value.S op))
   unfolding rowOf atˢ partOf meaning FinePart Fine FineRow
   appl-head op t r e = rw e (record { fine = r .fine .operator; is = λ tag. refl })
 
-  pub appl-listed : (op : SName) (t i : ℕ) {start : ℕ} → ReadyPlace b (row.Appl op t) i → (i ≡ 0 → ⊥) → start ≡ field b terms t 2 → Listed b start (i - 1)
+  pub appl-listed : (op : SName) (t i : ℕ) {start : ℕ} → ReadyPlace b (row.Appl t op) i → (i ≡ 0 → ⊥) → start ≡ field b terms t 2 → Listed b start (i - 1)
   unfolding rowLength FineRow
   appl-listed op t i r n e = record { promise = r .promise; here = omega (arith, r .within, r .fine .args .ends) }
 
-  pub appl-rest : (op : SName) (t i : ℕ) {start x : ℕ} → ReadyPlace b (row.Appl op t) i → (i ≡ 0 → ⊥) → start ≡ field b terms t 2 → x ≡ field b lists (start + (i - 1)) 0
-      → Element b (row.Appl op t) i (part.Term x)
+  pub appl-rest : (op : SName) (t i : ℕ) {start x : ℕ} → ReadyPlace b (row.Appl t op) i → (i ≡ 0 → ⊥) → start ≡ field b terms t 2 → x ≡ field b lists (start + (i - 1)) 0
+      → Element b (row.Appl t op) i (part.Term x)
   unfolding rowOf rowLength atˢ partOf FinePart FineRow
   appl-rest op t zero r n es ex = absurd (n refl)
   appl-rest op t (suc i) {start} {x} r n es ex =

@@ -35,7 +35,7 @@ dropˢ (suc i) (e ∷ˢ s) = dropˢ i s
 unfoldable pub rowLength : Book → SRow → ℕ
 rowLength b (row.Negation t) = 2
 rowLength b (row.Minus n) = 2
-rowLength b (row.Appl op t) = 1 + field b terms t 3
+rowLength b (row.Appl t op) = 1 + field b terms t 3
 rowLength b (row.Ite t) = 4
 rowLength b (row.Let t) = 3
 rowLength b (row.Bindings t) = 1

@@ -65,7 +65,7 @@ fn row_length(book: &[u8], p: SRow) -> usize
     match p {
         SRow::Negation(_) => NEGATION_PARTS,
         SRow::Minus(_) => MINUS_PARTS,
-        SRow::Appl(_, t) => OPERATOR_PARTS + field(book, TERMS, t, ARGUMENTS_COUNT),
+        SRow::Appl(t, _) => OPERATOR_PARTS + field(book, TERMS, t as usize, ARGUMENTS_COUNT),
         SRow::Ite(_) => ITE_PARTS,
         SRow::Let(_) => LET_PARTS,
         SRow::Bindings(_) => BINDINGS_PARTS,
@@ -118,8 +118,8 @@ fn minus_part(book: &[u8], n: u64, i: usize) -> Part
 }
 
 fn appl_part(book: &[u8], op: SName, t: usize, i: usize) -> Part
-    requires { ⌜ ReadyPlace (now book) (SRow.Appl op t) i ⌝ }
-    ensures { λ r. ⌜ Element (now (book .entry)) (SRow.Appl op t) i r ⌝ }
+    requires { ⌜ ReadyPlace (now book) (SRow.Appl t op) i ⌝ }
+    ensures { λ r. ⌜ Element (now (book .entry)) (SRow.Appl t op) i r ⌝ }
 {
     if i == HEAD {
         Part::Known(SExpr::S(op))
@@ -253,7 +253,7 @@ fn part_of(book: &[u8], p: SRow, i: usize) -> Part
     match p {
         SRow::Negation(t) => negation_part(book, t, i),
         SRow::Minus(n) => minus_part(book, n, i),
-        SRow::Appl(op, t) => appl_part(book, op, t, i),
+        SRow::Appl(t, op) => appl_part(book, op, t as usize, i),
         SRow::Ite(t) => ite_part(book, t, i),
         SRow::Let(t) => let_part(book, t, i),
         SRow::Bindings(t) => Part::Known(SExpr::PP(SRow::Binding(t))),

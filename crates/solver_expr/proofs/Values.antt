@@ -50,7 +50,7 @@ unfolding Fine meaning
 is-appl-none {op} {t} {count} z =
     record { fine = λ b h. h .operator; is = λ b tag e. appl-none b tag (textOf b tag op) (field b terms t 2) (field b terms t 3) (sym e ∙ z) }
 
-pub is-appl-some : {op : SName} {t count : ℕ} → (count ≡ 0 → ⊥) → IsAppl op t count (value.PP (row.Appl op t))
+pub is-appl-some : {op : SName} {t count : ℕ} → (count ≡ 0 → ⊥) → IsAppl op t count (value.PP (row.Appl t op))
 unfolding Fine FineRow meaning rowOf
 is-appl-some {op} {t} {count} n =
     record { fine = λ b h. h; is = λ b tag e. appl-some b tag (textOf b tag op) (field b terms t 2) (field b terms t 3) (λ z. n (e ∙ z)) }

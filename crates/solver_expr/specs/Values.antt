@@ -62,7 +62,7 @@ module _ (b : Book) (tag : ℕ) where
   unfoldable pub rowOf : SRow → SExprs
   rowOf (row.Negation t) = S NOT ∷ˢ termOf t ∷ˢ []ˢ
   rowOf (row.Minus n) = S (ascii "-") ∷ˢ S (nat2String n) ∷ˢ []ˢ
-  rowOf (row.Appl op t) = S (textOf op) ∷ˢ termsOf (field b terms t 2) (field b terms t 3)
+  rowOf (row.Appl t op) = S (textOf op) ∷ˢ termsOf (field b terms t 2) (field b terms t 3)
   rowOf (row.Ite t) = S (ascii "ite") ∷ˢ termOf (field b terms t 1) ∷ˢ termOf (field b terms t 2) ∷ˢ termOf (field b terms t 3) ∷ˢ []ˢ
   rowOf (row.Let t) =
       S (ascii "let") ∷ˢ PP (PP (id (constantOf b (field b terms t 1)) ∷ˢ termOf (field b terms t 2) ∷ˢ []ˢ) ∷ˢ []ˢ) ∷ˢ termOf (field b terms t 3) ∷ˢ []ˢ
@@ -114,7 +114,7 @@ module _ (b : Book) where
   unfoldable pub FineRow : SRow → Type 0
   FineRow (row.Negation t) = t < size b terms
   FineRow (row.Minus n) = Unit {0}
-  FineRow (row.Appl op t) = ApplHere op t
+  FineRow (row.Appl t op) = ApplHere op t
   FineRow (row.Ite t) = OfKind ifThenElse t
   FineRow (row.Let t) = OfKind letExpr t
   FineRow (row.Bindings t) = OfKind letExpr t

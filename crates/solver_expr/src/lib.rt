@@ -53,11 +53,11 @@ pub enum SName {
     Tag,
 }
 
-// The seq of PP(seq), by the record that it is made of: a term, or for BoundVar a constant, for Terms a pattern, for Types a function. Minus has the magnitude of a negative number, Appl the name of its head.
+// The seq of PP(seq), by the record that it is made of: a term, or for BoundVar a constant, for Terms a pattern, for Types a function. Minus has the magnitude of a negative number. Appl has the name of its head beside the term, and the term as u32 before it, so that a row takes three words: the printer holds two rows in each of its calls.
 pub enum SRow {
     Negation(usize),
     Minus(u64),
-    Appl(SName, usize),
+    Appl(u32, SName),
     Ite(usize),
     Let(usize),
     Bindings(usize),
@@ -148,13 +148,13 @@ impl SExpr {
     }
 
     // FuncAppl(op, args), args the `count` arguments of term t
-    pub fn func_appl(op: SName, t: usize, count: usize) -> SExpr
+    pub fn func_appl(op: SName, t: u32, count: usize) -> SExpr
         ensures { λ r. ⌜ IsAppl op t count r ⌝ }
     {
         if count == 0 {
             SExpr::S(op)
         } else {
-            SExpr::PP(SRow::Appl(op, t))
+            SExpr::PP(SRow::Appl(t, op))
         }
     }
 

@@ -93,17 +93,13 @@ pub fn to_sexpr(book: &[u8], t: usize) -> SExpr
         CUSTOM_LITERAL => literal(book, x),
         ID => SExpr::id(book, field(book, TERMS, x, ID_CONSTANT)),
         BUILT_IN => {
-            let op = field(book, TERMS, x, OPERATOR);
-            SExpr::func_appl(
-                SName::Operator(op),
-                x,
-                field(book, TERMS, x, ARGUMENTS_COUNT),
-            )
+            let op = SName::Operator(field(book, TERMS, x, OPERATOR));
+            SExpr::func_appl(op, x as u32, field(book, TERMS, x, ARGUMENTS_COUNT))
         }
         APPLICATION => {
             let f = field(book, TERMS, x, OPERATOR);
-            let op = field(book, FUNCTIONS, f, FUNCTION_NAME);
-            SExpr::func_appl(SName::Symbol(op), x, field(book, TERMS, x, ARGUMENTS_COUNT))
+            let op = SName::Symbol(field(book, FUNCTIONS, f, FUNCTION_NAME));
+            SExpr::func_appl(op, x as u32, field(book, TERMS, x, ARGUMENTS_COUNT))
         }
         IF_THEN_ELSE => SExpr::PP(SRow::Ite(x)),
         LET_EXPR => SExpr::PP(SRow::Let(x)),

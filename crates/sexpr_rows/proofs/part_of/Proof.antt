@@ -88,6 +88,7 @@ part-of-spec =
     (λ c. search needs)
     minus-part-requires
     (λ c. search needs)
+    (λ c. search needs)
     appl-part-requires
     (λ c. search needs)
     ite-part-requires

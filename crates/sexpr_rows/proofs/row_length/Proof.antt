@@ -87,6 +87,7 @@ row-length-spec =
     (λ c. search needs)
     (λ c. search needs)
     (λ c. search needs)
+    (λ c. search needs)
     field-requires
     (λ c. search needs)
     (λ c. search needs)

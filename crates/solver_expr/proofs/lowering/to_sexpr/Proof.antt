@@ -15,6 +15,12 @@ id-requires c κs = id-here _ (c .before .before .before .before .before .pre .p
 field-requires-7 : tie.Need-field-requires-7
 field-requires-7 c κs = (omega arith, record { laid = c .before .before .before .before .before .pre .promise .functions-laid; here = function-here _ (c .before .before .before .before .before .pre .promise) (c .before .before .before .bare .ensures .here) (c .before .before .field .ensures .is) (c .before .match .keys6) (c .field6 .ensures .is); within = omega arith })
 
+cast-func-appl : tie.Need-cast-func-appl
+cast-func-appl c = omega (arith, c .before .before .before .bare .ensures .here, c .before .before .before .before .before .pre .promise .terms-laid .few)
+
+cast-func-appl-2 : tie.Need-cast-func-appl-2
+cast-func-appl-2 c = omega (arith, c .before .before .before .before .bare .ensures .here, c .before .before .before .before .before .before .pre .promise .terms-laid .few)
+
 returns : tie.Need-returns
 returns c = bared _ (c .before .before .before .before .bare .ensures) (lowered-boolean _ (c .before .before .before .before .before .before .pre .promise) (c .before .before .before .before .bare .ensures .here) (c .before .before .before .field .ensures .is) (c .before .before .match .keys1) (c .before .field2 .ensures .is) (c .boolean .ensures))
 
@@ -56,10 +62,12 @@ to-sexpr-spec =
     (λ c κs. search needs)
     id-requires
     (λ c κs. search needs)
+    cast-func-appl
     (λ c κs. search needs)
     (λ c κs. search needs)
     (λ c κs. search needs)
     field-requires-7
+    cast-func-appl-2
     (λ c κs. search needs)
     (λ c κs. search needs)
     returns
