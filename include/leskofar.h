@@ -66,9 +66,10 @@ typedef struct {
 
 /*
  * Prints a term of the book into the text buffer: refusals 1 to 7 and 10, the first that holds. `tag` is the number that the literal
- * %tag stands for. `newlines` is a flag, 0 or any other number: 0 for one line; else each part of a list behind its first is on a line
- * of its own, two spaces deeper than the list, which itself is taken to stand `indent` spaces deep. The text has no line end and no
- * zero byte at its end. Bytes of the buffer behind the text keep what they hold; a refused call changes none at all.
+ * %tag stands for. A negative number is a minus applied to a numeral, as SMT-LIB 2.6 has it: -5 is (- 5), a list like any other.
+ * `newlines` is a flag, 0 or any other number: 0 for one line; else each part of a list behind its first is on a line of its own, two
+ * spaces deeper than the list, which itself is taken to stand `indent` spaces deep. The text has no line end and no zero byte at its
+ * end. Bytes of the buffer behind the text keep what they hold; a refused call changes none at all.
  */
 leskofar_printed leskofar_print(const uint8_t *book, size_t book_len, uint8_t *scratch, size_t scratch_len, uint32_t term, uint64_t tag,
                                 uint32_t newlines, uint64_t indent, uint8_t *text, size_t text_len);
@@ -82,7 +83,8 @@ leskofar_printed leskofar_trace(const uint8_t *book, size_t book_len, uint8_t *s
 
 /*
  * Prints what is to be proved where a goal, any term, is asked at a node: the premises from the root down and the goal, each on a line,
- * in B3's notation and with the names as they stand in the book. Refusals 1 to 7 and 10, the first that holds. Buffers as above.
+ * in B3's notation, where a negative number is -5, and with the names as they stand in the book. Refusals 1 to 7 and 10, the first
+ * that holds. Buffers as above.
  */
 leskofar_printed leskofar_listing(const uint8_t *book, size_t book_len, uint8_t *scratch, size_t scratch_len, uint32_t node,
                                   uint32_t goal, uint8_t *text, size_t text_len);
@@ -118,17 +120,18 @@ typedef struct {
 uint32_t leskofar_fresh(uint8_t *image, size_t image_len);
 
 /*
- * Moves the session to a node, 0 for the root: refusals 1 to 7, 20, 21, 9 and 10, the first that holds in this order. The text has pops
- * up to the deepest shared node, then for each node below it a push, the declarations and the assertion; it is empty where the session
- * is there already. An accepted call changes the image. Bytes behind the text keep what they hold; a refused call changes neither the
- * image nor the text.
+ * Moves the session to a node, 0 for the root: refusals 1 to 7, 20, 21, 9 and 10, the first that holds in this order. The text has
+ * (pop 1) for each node up to the deepest shared one, then for each node below it (push 1), the declarations and the assertion; it is
+ * empty where the session is there already. An accepted call changes the image. Bytes behind the text keep what they hold; a refused
+ * call changes neither the image nor the text.
  */
 leskofar_answer leskofar_move(const uint8_t *book, size_t book_len, uint8_t *scratch, size_t scratch_len, uint8_t *image,
                               size_t image_len, uint32_t node, uint8_t *text, size_t text_len);
 
 /*
- * Moves the session to a node and asks there whether a term, the goal, follows. Refusals and buffers as above. The text ends in
- * (check-sat), and a reply is owed: until the question is closed, move and ask are refused.
+ * Moves the session to a node and asks there whether a term, the goal, follows. Refusals and buffers as above. Behind the move's text
+ * there are (push 1) and what the goal declares, (push 1) and the goal's negation, and (check-sat); a reply is owed: until the question
+ * is closed, move and ask are refused.
  */
 leskofar_answer leskofar_ask(const uint8_t *book, size_t book_len, uint8_t *scratch, size_t scratch_len, uint8_t *image,
                              size_t image_len, uint32_t node, uint32_t goal, uint8_t *text, size_t text_len);
@@ -136,8 +139,9 @@ leskofar_answer leskofar_ask(const uint8_t *book, size_t book_len, uint8_t *scra
 /*
  * Takes what came of the check: refusals 1 to 6, 20, 22 and 10, in this order. `ok` is a flag, 0 where the check failed; `reply` then is
  * its error text, and the goal is unproved with that text as the reason. Else `reply` is the solver's reply without its line end: the
- * five bytes unsat prove the goal; after any other the text is (get-model), and a model is owed. The reason buffer is touched only where
- * there is a reason. A refused call changes neither the image nor the text nor the reason.
+ * five bytes unsat prove the goal; after any other the text is (get-model), and a model is owed. Where the question is closed, the text
+ * is two lines (pop 1), 16 bytes. The reason buffer is touched only where there is a reason. A refused call changes neither the image
+ * nor the text nor the reason.
  */
 leskofar_answer leskofar_reply(const uint8_t *book, size_t book_len, uint8_t *scratch, size_t scratch_len, uint8_t *image,
                                size_t image_len, uint32_t ok, const uint8_t *reply, size_t reply_len, uint8_t *text, size_t text_len,
@@ -145,7 +149,8 @@ leskofar_answer leskofar_reply(const uint8_t *book, size_t book_len, uint8_t *sc
 
 /*
  * Takes the same reply once more, and the model where the flag `has_model` is not 0: refusals 1 to 6, 20, 23, 8 and 10, in this order.
- * The goal is unproved; the reason is the reply and, where a model came, a line end and the model. Buffers as above.
+ * The goal is unproved, and the text is the two pops; the reason is the reply and, where a model came, a line end and the model.
+ * Buffers as above.
  */
 leskofar_answer leskofar_model(const uint8_t *book, size_t book_len, uint8_t *scratch, size_t scratch_len, uint8_t *image,
                                size_t image_len, const uint8_t *reply, size_t reply_len, uint32_t has_model, const uint8_t *model,
