@@ -14,7 +14,7 @@ const BASE: u64 = 10;
 const DIGITS: usize = 20;
 
 // From here on 64 bits are a negative number.
-const SIGN: u64 = 0x8000_0000_0000_0000;
+pub const SIGN: u64 = 0x8000_0000_0000_0000;
 
 // Writes a number that is not negative: its digits, from the last on, are made in an array.
 pub fn put_u64(n: u64, out: &mut [u8]) -> usize

@@ -3,6 +3,7 @@ mod decimal;
 mod place;
 mod write;
 
+pub use decimal::SIGN;
 pub use decimal::put_i64;
 pub use decimal::put_int;
 pub use decimal::put_u64;

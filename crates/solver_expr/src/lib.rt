@@ -4,6 +4,7 @@ ghost use Rattle.basics.specs.Basics.{int64};
 ghost use Rattle.book.specs.Book.{constants};
 ghost use Rattle.solver_expr.specs.SolverExpr.{FALSE, TRUE, EQ, NOT, AND};
 ghost use Rattle.solver_expr.specs.Values.{Ready, IsBoolean, IsInteger, IsId, IsAppl, IsNegation};
+use basics::SIGN;
 use book::Refusal;
 use book::field;
 use book::format::CONSTANT_NAME;
@@ -14,6 +15,9 @@ mod lowering;
 pub use lowering::integer_bits;
 pub use lowering::to_sexpr;
 pub use lowering::type_to_sexpr;
+
+// The bits of -1.
+const MAX: u64 = 0xFFFF_FFFF_FFFF_FFFF;
 
 // The answer of a printing call: the text's length.
 pub enum Printed {
@@ -36,12 +40,6 @@ pub enum Word {
     Bool,
     Int,
 }
-
-// From here on 64 bits are a negative number.
-const SIGN: u64 = 0x8000_0000_0000_0000;
-
-// The bits of -1.
-const MAX: u64 = 0xFFFF_FFFF_FFFF_FFFF;
 
 // The string of S(string): a word, the name of a built-in operator or of a type, constant or function, a number that is not negative, a literal's term, or the number of %tag.
 pub enum SName {
