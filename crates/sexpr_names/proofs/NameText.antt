@@ -1,19 +1,18 @@
 -- The text of names.
-use Prim.Native.Nat.{ℕ, zero, suc, _+_, _-_, _/_, _%_, _≤_, _<_, min}
+use Prim.Native.Nat.{ℕ, zero, suc, _+_, _-_, _/_, _%_, _<_}
 use native.Mathlib.Omega.{arith}
 use mathlib.Core.Path.{_≡_, refl, sym, ap, _∙_, subst}
 use mathlib.Core.List.{List, [], _∷_, _++_, append-assoc}
-use lib.ListN.{length, take, drop, length-append}
+use lib.ListN.{length, length-append}
 use Rattle.basics.specs.Text.{Text, ascii}
 use Rattle.basics.specs.Basics.{int2StringNoLeadingZero, nat2String}
-use Rattle.basics.specs.Write.{MOST, Wrote}
-use Rattle.basics.proofs.Laws.{joined, wrote-then, wrote-as}
-use Rattle.book.specs.Book.{Book, names, types, terms, size, field, nameText}
+use Rattle.basics.specs.Write.{Wrote}
+use Rattle.basics.proofs.Laws.{wrote-as}
+use Rattle.book.specs.Book.{Book, names, types, terms, field, nameText}
 use Rattle.book.specs.Decode.{typeOf, literalOf}
-use Rattle.book_test.specs.Promise.{Promise}
 use Rattle.solver_expr.specs.SolverExpr.{nameToString, typeToString}
 use Rattle.solver_expr.specs.Lowering.{literalName}
-use Rattle.solver_expr.specs.Values.{wordText, textOf, FineName, LiteralHere, Ready, ReadyType, ReadyLiteral}
+use Rattle.solver_expr.specs.Values.{wordText, textOf, FineName, Ready, ReadyType, ReadyLiteral}
 use Rattle.solver_expr.specs.declared.Word.{Word}
 use Rattle.solver_expr.specs.declared.Word.the-variants as word
 use Rattle.solver_expr.specs.declared.SName.{SName}

@@ -2,14 +2,13 @@
 use Prim.Native.Nat.{ℕ, zero, suc, _+_, _*_, _≤_, _<_}
 use native.Mathlib.Nat.{add-zero}
 use native.Mathlib.Omega.{arith}
-use native.Mathlib.Numerals.{add-one}
-use mathlib.Core.Path.{_≡_, refl, sym, ap, _∙_}
+use mathlib.Core.Path.{_≡_, refl, ap}
 use mathlib.Core.List.{List, [], _∷_, map}
 use Rattle.basics.specs.Text.{ascii}
 use Rattle.book.specs.Book.{Book, patterns, lists, terms, functions, field, entries}
 use Rattle.book.specs.Decode.{typeOf, constantOf, functionOf, argsOf, patternOf, toRExprs, toRPatterns, term}
 use Rattle.solver_expr.specs.SolverExpr.{SExpr, SExprs, S, PP, []ˢ, _∷ˢ_, typeToSExpr, typeList}
-use Rattle.solver_expr.specs.Lowering.{boundVarToSExpr, boundVarsToSExpr, toSExpr, toSExprs, patternsToSExprs}
+use Rattle.solver_expr.specs.Lowering.{boundVarToSExpr, boundVarsToSExpr, toSExprs, patternsToSExprs}
 use Rattle.solver_expr.specs.Values.{termOf, termsOf, patternsOf, rowOf}
 use Rattle.solver_expr.specs.declared.SRow.{SRow}
 use Rattle.solver_expr.specs.declared.SRow.the-variants as row

@@ -2,23 +2,20 @@
 use Prim.Native.Nat.{ℕ, zero, suc, _+_, _-_, _*_, _/_, _%_, _≤_, _<_}
 use native.Mathlib.Omega.{arith}
 use mathlib.Core.Path.{_≡_, refl, sym, ap, _∙_, subst}
-use mathlib.Core.List.{List, [], _∷_}
-use mathlib.Core.Bool.{Bool, true, false, not}
-use lib.Dec.{eqb}
+use mathlib.Core.List.{_∷_}
 use borrow.Author.Tests.{eq-eqb, ne-eqb}
-use Rattle.basics.specs.Text.{Text, ascii, if_then_else_}
-use Rattle.book.specs.Book.{Book, names, types, constants, functions, patterns, terms, lists, size, field, nameText, userTypes}
-use Rattle.book.specs.Decode.{Kind, ifThenElse, letExpr, quantifierExpr, constantOf, functionOf, typeOf, toRPatterns}
+use Rattle.basics.specs.Text.{ascii, if_then_else_}
+use Rattle.book.specs.Book.{Book, constants, functions, patterns, terms, lists, field}
+use Rattle.book.specs.Decode.{constantOf, functionOf, toRPatterns}
 use Rattle.book.specs.Decode as decode
-use Rattle.book_test.specs.Promise.{Promise, Range, GoodKind}
-use Rattle.solver_expr.specs.SolverExpr.{SExpr, SExprs, S, PP, []ˢ, _∷ˢ_, NOT, id, typeToSExpr, funcAppl}
+use Rattle.book_test.specs.Promise.{GoodKind}
+use Rattle.solver_expr.specs.SolverExpr.{SExpr, S, PP, _∷ˢ_, funcAppl}
 use Rattle.solver_expr.specs.Lowering.{annotate, patternsToSExprs}
-use Rattle.solver_expr.specs.Values.{wordText, quantifierWord, textOf, rowOf, meaning, termOf, patternsOf, OfKind, ApplHere, QuantifierHere, FineName, FineRow, Fine, Ready, ReadyType, IsId, IsType, Lowered}
+use Rattle.solver_expr.specs.Values.{wordText, quantifierWord, textOf, rowOf, meaning, termOf, patternsOf, FineName, FineRow, Fine, Ready, ReadyType, IsId, IsType}
 use Rattle.solver_expr.specs.declared.Word.{Word}
 use Rattle.solver_expr.specs.declared.Word.the-variants as word
 use Rattle.solver_expr.specs.declared.SName.{SName}
 use Rattle.solver_expr.specs.declared.SName.the-variants as name
-use Rattle.solver_expr.specs.declared.SRow.{SRow}
 use Rattle.solver_expr.specs.declared.SRow.the-variants as row
 use Rattle.solver_expr.specs.declared.SExpr as code
 use Rattle.solver_expr.specs.declared.SExpr.the-variants as value

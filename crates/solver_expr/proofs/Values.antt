@@ -1,29 +1,26 @@
 -- What the builders make, and the values of lowered terms.
 use Prim.Native.Nat.{ℕ, zero, suc, _+_, _-_, _*_, _^_, _≤_, _<_}
 use native.Mathlib.Omega.{arith}
-use mathlib.Core.Path.{_≡_, refl, sym, ap, _∙_, subst}
-use mathlib.Core.List.{List, [], _∷_}
+use mathlib.Core.Path.{_≡_, refl, sym, ap, _∙_}
 use mathlib.Core.Bool.{Bool, true, false, not}
-use lib.Dec.{eqb, ltb}
-use lib.IntN.{pos, negsuc}
+use lib.Dec.{eqb}
 use borrow.Author.Tests.{lt-ltb, le-ltb}
-use Rattle.basics.specs.Text.{Text, ascii, same, if_then_else_}
+use Rattle.basics.specs.Text.{ascii, same, if_then_else_}
 use Rattle.basics.specs.Basics.{int64}
 use Rattle.basics.specs.Write.{MOST}
-use Rattle.book.specs.Book.{Book, names, types, constants, functions, terms, size, field, nameText}
-use Rattle.book.specs.Laid.{Holds}
+use Rattle.book.specs.Book.{Book, types, constants, functions, terms, size, field, nameText}
 use Rattle.book.specs.Decode.{kindOf, constantOf, functionOf, typeOf, literalOf, termBy}
 use Rattle.book_test.specs.Promise.{Promise, Range, GoodKind}
 use Rattle.solver_expr.specs.SolverExpr.{SExpr, S, boolean, integer, id, funcAppl, negation, typeToSExpr}
 use Rattle.solver_expr.specs.Lowering.{operatorName, isTag, literalToString, toSExpr}
-use Rattle.solver_expr.specs.Values.{wordText, textOf, rowOf, meaning, termOf, termsOf, patternsOf, quantifierWord, OfKind, LiteralHere, ApplHere, QuantifierHere, FineName, FineRow, Fine, Ready, ReadyType, IsBoolean, IsInteger, IsAppl, IsNegation, IsId, IsType, IsLiteral, Lowered, withoutVariables, Bare}
+use Rattle.solver_expr.specs.Values.{wordText, textOf, rowOf, meaning, termOf, termsOf, patternsOf, quantifierWord, LiteralHere, FineName, FineRow, Fine, Ready, ReadyType, IsBoolean, IsInteger, IsAppl, IsNegation, IsId, IsType, IsLiteral, Lowered, withoutVariables, Bare}
 use Rattle.solver_expr.specs.declared.Word.the-variants as word
 use Rattle.solver_expr.specs.declared.SName.{SName}
 use Rattle.solver_expr.specs.declared.SName.the-variants as name
 use Rattle.solver_expr.specs.declared.SRow.the-variants as row
 use Rattle.solver_expr.specs.declared.SExpr as code
 use Rattle.solver_expr.specs.declared.SExpr.the-variants as value
-use Rattle.solver_expr.proofs.Lower.{appl-none, appl-some, vars-some, kind-at, is-bare, not-bare, by-kind, good-kind, body-smaller, body-is, last-kind}
+use Rattle.solver_expr.proofs.Lower.{appl-none, appl-some, vars-some, kind-at, is-bare, not-bare, by-kind, good-kind, body-smaller, body-is}
 
 -- Builders.
 

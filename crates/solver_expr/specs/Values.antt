@@ -1,17 +1,17 @@
 -- What the code's S-expressions mean. There is no heap: a value says where in the book its text and its parts stand.
-use Prim.Native.Nat.{ℕ, zero, suc, _+_, _*_, _<_}
+use Prim.Native.Nat.{ℕ, _+_, _<_}
 use mathlib.Core.Path.{_≡_}
-use mathlib.Core.List.{List, [], _∷_, map}
-use mathlib.Core.Bool.{Bool, true, false, not, _&&_}
+use mathlib.Core.List.{_∷_, map}
+use mathlib.Core.Bool.{Bool, false, not, _&&_}
 use lib.IntN.{ℤ}
 use lib.Dec.{eqb}
 use Rattle.basics.specs.Text.{Text, ascii, if_then_else_}
 use Rattle.basics.specs.Basics.{nat2String}
 use Rattle.book.specs.Book.{Book, Section, names, types, constants, functions, patterns, terms, size, field, entries, nameText, userTypes}
-use Rattle.book.specs.Decode.{Kind, ifThenElse, letExpr, quantifierExpr, kindOf, typeOf, constantOf, functionOf, literalOf, argsOf, patternOf, toRPatterns, term}
+use Rattle.book.specs.Decode.{Kind, ifThenElse, letExpr, quantifierExpr, typeOf, constantOf, functionOf, literalOf, argsOf, patternOf, toRPatterns, term}
 use Rattle.book_test.specs.Promise.{Promise, Range, GoodLiteral, GoodKind}
 use Rattle.solver_expr.specs.SolverExpr.{SExpr, SExprs, S, PP, []ˢ, _∷ˢ_, FALSE, TRUE, NOT, boolean, integer, id, funcAppl, negation, typeToSExpr, typeList}
-use Rattle.solver_expr.specs.Lowering.{literalName, literalToString, boundVarToSExpr, boundVarsToSExpr, annotate, toSExpr, toSExprs, patternsToSExprs}
+use Rattle.solver_expr.specs.Lowering.{literalName, literalToString, boundVarsToSExpr, annotate, toSExpr, toSExprs, patternsToSExprs}
 use Rattle.solver_expr.specs.declared.Word.{Word}
 use Rattle.solver_expr.specs.declared.Word.the-variants as word
 use Rattle.solver_expr.specs.declared.SName.{SName}
