@@ -1,5 +1,6 @@
 //! Terms, good and bad, by what is declared and bound.
 
+use leskofar_reference::book::Section;
 use leskofar_reference::smtlib::Reader;
 
 const DECLARED: &[u8] = b"(declare-sort T 0) (declare-sort P 2) \
@@ -228,4 +229,25 @@ fn patterns() {
         ),
         ("(!)", "byte 2: a closing parenthesis, expected a term"),
     ]);
+}
+
+/// As deep as the terms of a book nest, and twice as deep where a term prints
+/// as two.
+#[test]
+fn deep_terms() {
+    let depth = Section::Terms.most();
+    for (before, behind) in [
+        ("(- ", ")"),
+        ("(+ x ", ")"),
+        ("(ite true x ", ")"),
+        ("(let ((v ", ")) v)"),
+        ("(let ((v x)) ", ")"),
+        ("(forall ((v Int)) (! ", " :pattern (v)))"),
+        ("(exists ((v Int)) (! v :pattern (", ")))"),
+    ] {
+        let nested = |inner| format!("{}{inner}{}", before.repeat(depth), behind.repeat(depth));
+        are_good(&[&nested("(- 5)")]);
+        let refused = read(&nested("-5")).expect_err("no number");
+        assert!(refused.ends_with("`-5` is not declared"));
+    }
 }
