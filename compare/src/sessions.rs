@@ -28,29 +28,29 @@ const LARGE: usize = 60;
 const LISTS_AT_LIMITS: usize = 8;
 
 /// The sample's session, with the text of document 01.
-const MOVE_2: &str = "(push)
+const MOVE_2: &str = "(push 1)
 (declare-fun x () Int)
 (assert (< 0 x))
-(push)
+(push 1)
 (declare-fun y () Int)
 (declare-fun f (Int) Int)
 (assert (forall ((z Int)) (= (f z) z)))
 (assert (= y (f x)))
 ";
-const MOVE_3: &str = "(pop)
-(push)
+const MOVE_3: &str = "(pop 1)
+(push 1)
 (assert (< x 9))
 ";
-const ASK_3: &str = "(push)
+const ASK_3: &str = "(push 1)
 (declare-fun f (Int) Int)
 (assert (forall ((z Int)) (= (f z) z)))
 (declare-fun y () Int)
-(push)
+(push 1)
 (assert (not (< 0 (f y))))
 (check-sat)
 ";
-const END: &str = "(pop)
-(pop)
+const END: &str = "(pop 1)
+(pop 1)
 ";
 const GET_MODEL: &str = "(get-model)
 ";
