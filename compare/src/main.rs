@@ -40,10 +40,13 @@ mod nodes_random;
 mod nodes_shapes;
 mod nodes_terms;
 mod nodes_trees;
+mod print_call;
 mod printed;
 mod printing;
 mod random_calls;
 mod random_inputs;
+mod sane;
+mod sane_books;
 mod script;
 mod seen;
 mod session_books;
@@ -55,6 +58,8 @@ mod session_shapes;
 mod session_tours;
 mod sessions;
 mod shapes;
+mod strict;
+mod strict_lists;
 mod tally;
 mod timing;
 
@@ -83,6 +88,7 @@ fn main() -> ExitCode {
     session_tours::run(&mut tally);
     session_literals::run(&mut tally);
     session_names::run(&mut tally);
+    strict_lists::run(&mut tally);
     nodes::run(&mut tally);
     script::run(&mut tally);
     if tally.close() {

@@ -41,9 +41,18 @@ pub struct Seen {
     pub reasons: Met<u8>,
     /// Accepted calls whose live levels were held against the book's.
     pub levels: usize,
+    /// What the strict reader read: lines of text, and prints of goals.
+    pub strict_lines: usize,
+    pub strict_prints: usize,
 }
 
 impl Seen {
+    /// How much the strict reader read, in words.
+    pub fn read_strictly(&self) -> String {
+        let [lines, prints] = [self.strict_lines, self.strict_prints];
+        format!("{lines} lines and {prints} prints read strictly")
+    }
+
     pub fn add(&mut self, call: &Call, left: &Left) {
         let [refusal, result] = [left.answer.refusal, left.answer.result];
         let (at, name) = match call {

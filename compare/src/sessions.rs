@@ -128,7 +128,7 @@ fn made_groups(tally: &mut Tally) {
 }
 
 /// A list of random calls, and the image that it leaves.
-fn random_list(
+pub fn random_list(
     random: &mut Random,
     m: &Maker,
     other: &[u8],
@@ -178,7 +178,11 @@ fn random_groups(tally: &mut Tally) {
         seen.images.all_of(&manners())?;
         let every_byte: Vec<u8> = (0..=u8::MAX).collect();
         seen.reasons.all_of(&every_byte)?;
-        let mut said = format!("{lists} lists, levels held {} times", seen.levels);
+        let mut said = format!(
+            "{lists} lists, levels held {} times, {}",
+            seen.levels,
+            seen.read_strictly()
+        );
         for ((call, numbers), met) in REFUSALS.iter().zip(&seen.refusals) {
             let met = met
                 .all_of(numbers)

@@ -17,7 +17,7 @@ mod cursor;
 mod declared;
 mod lexer;
 mod refused;
-pub(crate) mod signatures;
+pub mod signatures;
 mod sorts;
 mod terms;
 pub(crate) mod words;
