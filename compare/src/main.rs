@@ -30,6 +30,7 @@ mod made_rules;
 mod made_sessions;
 mod made_splits;
 mod made_terms;
+mod negatives;
 mod nodes;
 mod nodes_books;
 mod nodes_call;
@@ -88,6 +89,7 @@ fn main() -> ExitCode {
     session_tours::run(&mut tally);
     session_literals::run(&mut tally);
     session_names::run(&mut tally);
+    negatives::run(&mut tally);
     strict_lists::run(&mut tally);
     nodes::run(&mut tally);
     script::run(&mut tally);

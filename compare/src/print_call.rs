@@ -5,6 +5,7 @@ use crate::printed::{compare, left, rooms_around, told, Left};
 use crate::tally::Met;
 use leskofar_reference::book_test::{check, SCRATCH_SIZE};
 use leskofar_reference::lower::to_sexpr;
+use leskofar_reference::maker::Maker;
 use leskofar_reference::program::Program;
 use leskofar_reference::sexpr::SExprPrintConfig;
 use leskofar_reference::sink::Sink;
@@ -87,6 +88,25 @@ pub fn compare_terms(book: &[u8], met: &mut Met) -> Result<(), String> {
                     call.compare_around(length, 0, met)?;
                 }
             }
+        }
+    }
+    Ok(())
+}
+
+/// The last term of a book, in every layout.
+pub fn compare_last(m: &Maker, met: &mut Met) -> Result<(), String> {
+    let book = &m.book();
+    let program = check(book).map_err(|refusal| format!("refused {refusal}"))?;
+    for indent in INDENTS {
+        for newlines in [ONE_LINE, FLAGS[0]] {
+            let call = Print {
+                book,
+                term: program.terms.len() as u32 - 1,
+                tag: 0,
+                newlines,
+                indent,
+            };
+            call.compare_around(call.length(&program), 0, met)?;
         }
     }
     Ok(())

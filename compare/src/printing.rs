@@ -4,7 +4,7 @@
 use crate::library;
 use crate::made_books::{chain, full, good_books};
 use crate::made_terms::{borders, nests};
-use crate::print_call::{compare_terms, Print, FLAGS, INDENTS, ONE_LINE, TAGS};
+use crate::print_call::{compare_last, compare_terms, Print, FLAGS, INDENTS, ONE_LINE, TAGS};
 use crate::printed::{compare, left, told, LONGER, LONGEST, ON_A_BOOK, SHORT_ROOMS};
 use crate::random_inputs::{any_book, any_number, any_term, good_book, scratch_length};
 use crate::shapes::{visit, SHAPES};
@@ -77,21 +77,7 @@ fn print_groups(tally: &mut Tally) {
     tally.group("print, as deep as a book can nest", || {
         let mut met = Met::default();
         for (name, m) in nests() {
-            let book = m.book();
-            let program = check(&book).map_err(|refusal| format!("{name}: refused {refusal}"))?;
-            for indent in INDENTS {
-                for newlines in [ONE_LINE, FLAGS[0]] {
-                    let call = Print {
-                        book: &book,
-                        term: program.terms.len() as u32 - 1,
-                        tag: 0,
-                        newlines,
-                        indent,
-                    };
-                    call.compare_around(call.length(&program), 0, &mut met)
-                        .map_err(|difference| format!("{name}: {difference}"))?;
-                }
-            }
+            compare_last(&m, &mut met).map_err(|difference| format!("{name}: {difference}"))?;
         }
         met.all_of(&[0, 10])
     });

@@ -49,7 +49,7 @@ const ASK_3: &str = "(push 1)
 (assert (not (< 0 (f y))))
 (check-sat)
 ";
-const END: &str = "(pop 1)
+pub const END: &str = "(pop 1)
 (pop 1)
 ";
 const GET_MODEL: &str = "(get-model)
@@ -57,7 +57,11 @@ const GET_MODEL: &str = "(get-model)
 
 /// Calls with their texts and reasons, each with a buffer that is just long
 /// enough after one that is too short by a byte.
-fn follow(list: &mut List, calls: &[(Call, &str, &[u8])], seen: &mut Seen) -> Result<(), String> {
+pub fn follow(
+    list: &mut List,
+    calls: &[(Call, &str, &[u8])],
+    seen: &mut Seen,
+) -> Result<(), String> {
     for (call, text, reason) in calls {
         let [text_room, reason_room] = [text.len(), reason.len()];
         let mut short = vec![];

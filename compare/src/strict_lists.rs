@@ -30,7 +30,7 @@ const NEVER: [&str; 3] = [
 ];
 
 /// Asks questions, each a node and a goal, of which every other one is proved.
-fn ask_all(
+pub fn ask_all(
     m: &Maker,
     questions: impl Iterator<Item = [u32; 2]>,
     measure: &mut Measure,
@@ -57,7 +57,7 @@ fn ask_all(
     })
 }
 
-fn checked_as_sane(m: &Maker) -> Result<(), String> {
+pub fn checked_as_sane(m: &Maker) -> Result<(), String> {
     let book = m.book();
     let program = check(&book).map_err(|refusal| format!("refused {refusal}"))?;
     if is_sane(&book, &program) {
