@@ -4,9 +4,7 @@
 use leskofar_reference::plan::{check_book, Complaint};
 use leskofar_reference::program::{Program, RExpr, ROperator};
 use leskofar_reference::smtlib::signatures::signature;
-
-/// SMT-LIB keeps names that begin so for solvers.
-const FOR_SOLVERS: [u8; 2] = [b'@', b'.'];
+use leskofar_reference::smtlib::words::is_for_solvers;
 
 /// Each name is a symbol of its own that may be declared, and whatever is
 /// applied is known and has as many arguments as it takes. Sorts are free.
@@ -15,11 +13,15 @@ pub fn is_sane(book: &[u8], program: &Program) -> bool {
     let types = program.types.iter().map(|typ| typ.name);
     let constants = program.constants.iter().map(|constant| constant.name);
     let functions = program.functions.iter().map(|function| function.name);
-    let is_for_solvers =
-        |name: &[u8]| matches!(name.first(), Some(first) if FOR_SOLVERS.contains(first));
+    let mut names = types.chain(constants).chain(functions);
     !complaints.iter().any(Complaint::is_of_names)
-        && !types.chain(constants).chain(functions).any(is_for_solvers)
+        && !names.any(|name| is_for_solvers(without_bars(name)))
         && program.terms.iter().all(|term| is_sane_term(program, term))
+}
+
+fn without_bars(name: &[u8]) -> &[u8] {
+    let between = name.strip_prefix(b"|").and_then(|n| n.strip_suffix(b"|"));
+    between.unwrap_or(name)
 }
 
 fn is_sane_term(program: &Program, term: &RExpr) -> bool {

@@ -6,10 +6,7 @@ use crate::smtlib::lexer::Token;
 use crate::smtlib::refused::{refuse, shown, Result};
 use crate::smtlib::sorts::sort;
 use crate::smtlib::terms::closed_term;
-use crate::smtlib::words::is_simple_symbol;
-
-/// A simple symbol that begins so is the solver's.
-const FOR_SOLVERS: [u8; 2] = [b'@', b'.'];
+use crate::smtlib::words::is_for_solvers;
 
 /// A reader of text that goes to a solver, piece by piece.
 #[derive(Default)]
@@ -126,8 +123,7 @@ impl Reader {
 fn new_name<'t>(cursor: &mut Cursor<'t>, is_live: impl Fn(&[u8]) -> bool) -> Result<&'t [u8]> {
     let at = cursor.at();
     let name = cursor.symbol("a symbol")?;
-    let begin = name.first().copied();
-    if is_simple_symbol(name) && begin.is_some_and(|first| FOR_SOLVERS.contains(&first)) {
+    if is_for_solvers(name) {
         return refuse(at, format!("{} is for solvers to declare", shown(name)));
     }
     if is_live(name) {

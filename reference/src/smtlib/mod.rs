@@ -20,7 +20,7 @@ mod refused;
 pub mod signatures;
 mod sorts;
 mod terms;
-pub(crate) mod words;
+pub mod words;
 
 pub use commands::Reader;
 pub use refused::Refused;

@@ -47,6 +47,8 @@ const RESERVED: [&str; 43] = [
     "set-logic",
     "set-option",
 ];
+/// A simple symbol that begins so is for solvers to declare.
+const FOR_SOLVERS: [u8; 2] = [b'@', b'.'];
 /// What a simple symbol may hold besides letters and digits.
 const SYMBOL_SIGNS: &[u8] = b"~!@$%^&*_-+=<>.?/";
 
@@ -62,4 +64,10 @@ pub fn is_symbol_byte(byte: u8) -> bool {
 pub fn is_simple_symbol(name: &[u8]) -> bool {
     let begins = name.first().is_some_and(|first| !first.is_ascii_digit());
     begins && name.iter().copied().all(is_symbol_byte)
+}
+
+/// Of a symbol without its bars.
+pub fn is_for_solvers(symbol: &[u8]) -> bool {
+    let begins = symbol.first();
+    is_simple_symbol(symbol) && begins.is_some_and(|first| FOR_SOLVERS.contains(first))
 }
