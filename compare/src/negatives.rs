@@ -163,7 +163,7 @@ fn session_groups(tally: &mut Tally) {
             ask_all(&m, questions, &mut measure, &mut seen)?;
         }
         let results = seen.results.all_of(&RESULTS)?;
-        Ok(format!("{results}, {}", seen.read_strictly()))
+        Ok(format!("{results}, {}", seen.read_strictly()?))
     });
     tally.group("numbers, as many and as deep, asked", || {
         let mut seen = Seen::default();
@@ -176,7 +176,7 @@ fn session_groups(tally: &mut Tally) {
             tour(&m, &mut measure, &mut seen).map_err(|what| format!("{name}: {what}"))?;
         }
         let results = seen.results.all_of(&RESULTS[..RESULTS.len() - 1])?;
-        Ok(format!("{results}, {}", seen.read_strictly()))
+        Ok(format!("{results}, {}", seen.read_strictly()?))
     });
 }
 

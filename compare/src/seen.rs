@@ -47,10 +47,15 @@ pub struct Seen {
 }
 
 impl Seen {
-    /// How much the strict reader read, in words.
-    pub fn read_strictly(&self) -> String {
+    /// How much the strict reader read. Fails if that is nothing.
+    pub fn read_strictly(&self) -> Result<String, String> {
         let [lines, prints] = [self.strict_lines, self.strict_prints];
-        format!("{lines} lines and {prints} prints read strictly")
+        let said = format!("{lines} lines and {prints} prints read strictly");
+        if lines > 0 && prints > 0 {
+            Ok(said)
+        } else {
+            Err(said)
+        }
     }
 
     pub fn add(&mut self, call: &Call, left: &Left) {

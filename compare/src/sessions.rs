@@ -185,7 +185,7 @@ fn random_groups(tally: &mut Tally) {
         let mut said = format!(
             "{lists} lists, levels held {} times, {}",
             seen.levels,
-            seen.read_strictly()
+            seen.read_strictly()?
         );
         for ((call, numbers), met) in REFUSALS.iter().zip(&seen.refusals) {
             let met = met

@@ -1,7 +1,7 @@
 //! The strict reader of SMT-LIB 2.6 beside a list of calls on a book with sane
 //! names: it reads every line of their text, and the prints of the goals.
 
-use crate::print_call::{Print, FLAGS, ONE_LINE, TAGS};
+use crate::print_call::{Print, FLAGS, ONE_LINE};
 use crate::sane::is_sane;
 use crate::tally::Met;
 use leskofar_reference::book_test::SCRATCH_SIZE;
@@ -9,8 +9,10 @@ use leskofar_reference::commands::LINE_END;
 use leskofar_reference::program::Program;
 use leskofar_reference::smtlib::Reader;
 
-/// Indents of prints in the layout with newlines.
-const INDENTS: [u64; 2] = [0, 7];
+/// Flag and indent of each print.
+const LAYOUTS: [(u32, u64); 3] = [(ONE_LINE, 0), (FLAGS[0], 0), (FLAGS[0], 7)];
+/// The first number that would be negative with a sign.
+const TAG: u64 = 1 << 63;
 
 pub struct Strict {
     reader: Reader,
@@ -47,27 +49,22 @@ impl Strict {
         program: &Program,
         goal: u32,
     ) -> Result<usize, String> {
-        let layouts = INDENTS.map(|indent| (FLAGS[0], indent));
-        let mut prints = 0;
-        for (newlines, indent) in [(ONE_LINE, 0)].into_iter().chain(layouts) {
-            for tag in TAGS {
-                let call = Print {
-                    book,
-                    term: goal,
-                    tag,
-                    newlines,
-                    indent,
-                };
-                let room = call.length(program) as usize;
-                let left = call.compare(room, SCRATCH_SIZE, &mut Met::default())?;
-                let asserted = [b"(assert ", left.text(), b")"].concat();
-                self.reader
-                    .read_term(left.text())
-                    .and_then(|()| self.reader.read(&asserted))
-                    .map_err(|refused| format!("strictly, {refused}, in a print by {call:?}"))?;
-                prints += 1;
-            }
+        for (newlines, indent) in LAYOUTS {
+            let call = Print {
+                book,
+                term: goal,
+                tag: TAG,
+                newlines,
+                indent,
+            };
+            let room = call.length(program) as usize;
+            let left = call.compare(room, SCRATCH_SIZE, &mut Met::default())?;
+            let asserted = [b"(assert ", left.text(), b")"].concat();
+            self.reader
+                .read_term(left.text())
+                .and_then(|()| self.reader.read(&asserted))
+                .map_err(|refused| format!("strictly, {refused}, in a print by {call:?}"))?;
         }
-        Ok(prints)
+        Ok(LAYOUTS.len())
     }
 }

@@ -12,7 +12,7 @@ use crate::tally::Tally;
 use leskofar_reference::book_test::check;
 use leskofar_reference::chains::{random_chain_plan, MOST_STEPS};
 use leskofar_reference::fresh_image;
-use leskofar_reference::maker::{sample, Maker};
+use leskofar_reference::maker::{sample, Maker, Sample};
 use leskofar_reference::plan::{read, Options};
 use leskofar_reference::random::Random;
 use leskofar_reference::session::UNSAT;
@@ -72,9 +72,14 @@ pub fn run(tally: &mut Tally) {
     tally.group("strict, the sample plans and chains", || {
         let mut seen = Seen::default();
         let mut measure = Measure::new();
-        let sample = sample();
-        let questions = (0..=3).map(|node| [node, sample.goal]);
-        ask_all(&sample.maker, questions, &mut measure, &mut seen)?;
+        let Sample { maker, goal } = sample();
+        let nodes = 0..=maker.contexts.len() as u32;
+        ask_all(
+            &maker,
+            nodes.map(|node| [node, goal]),
+            &mut measure,
+            &mut seen,
+        )?;
         for file in fs::read_dir(SAMPLES).map_err(|error| error.to_string())? {
             let path = file.map_err(|error| error.to_string())?.path();
             let text = fs::read(&path).map_err(|error| error.to_string())?;
@@ -91,7 +96,7 @@ pub fn run(tally: &mut Tally) {
             let questions = plan.questions.iter().map(|asked| [asked.node, asked.goal]);
             ask_all(&plan.maker, questions, &mut measure, &mut seen)?;
         }
-        Ok(seen.read_strictly())
+        seen.read_strictly()
     });
     let lists = tally.share(LISTS);
     tally.group("strict, random books with sane names", || {
@@ -110,9 +115,7 @@ pub fn run(tally: &mut Tally) {
             .collect();
         seen.shapes.all_of(&shapes)?;
         let results = seen.results.all_of(&RESULTS)?;
-        Ok(format!(
-            "{lists} lists, {}, accepted: {results}",
-            seen.read_strictly()
-        ))
+        let read = seen.read_strictly()?;
+        Ok(format!("{lists} lists, {read}, accepted: {results}"))
     });
 }

@@ -25,8 +25,9 @@ enum Change<'t> {
 }
 
 impl Reader {
-    /// Reads commands to the end of a text, and gives how many there are. The
-    /// first that is refused changes nothing; those before it were read.
+    /// Reads commands to the end of a text, and gives how many there are. Text
+    /// that is no row of tokens is refused whole; else a command that is
+    /// refused changes nothing, and those before it were read.
     pub fn read(&mut self, text: &[u8]) -> Result<usize> {
         let mut cursor = Cursor::new(text)?;
         let mut commands = 0;

@@ -6,6 +6,9 @@ use std::collections::HashMap;
 /// How many arguments something takes: at least, and at most.
 pub type Arguments = (usize, Option<usize>);
 
+/// Of `ite`: a guard and two branches.
+const BRANCHING: usize = 3;
+
 struct Declaration {
     arguments: usize,
     level: usize,
@@ -38,7 +41,7 @@ impl Declared {
         let exactly = |arguments| (arguments, Some(arguments));
         match name {
             b"true" | b"false" => Some(exactly(0)),
-            b"ite" => Some(exactly(3)),
+            b"ite" => Some(exactly(BRANCHING)),
             _ => match (signature(name), self.functions.get(name)) {
                 (Some(operator), _) => Some((operator.least, operator.most)),
                 (None, declared) => declared.map(|declared| exactly(declared.arguments)),
