@@ -7,7 +7,7 @@ use crate::bench_table::{head, row, LONG, SHORT, TERMS};
 use crate::library;
 use crate::made_books::full;
 use crate::made_costly::overlapping;
-use crate::made_terms::{flat, nest_of};
+use crate::made_terms::{flat, flat_numbers, nest_of};
 use crate::timing::{fastest, ratio};
 use leskofar_reference::book_test::SCRATCH_SIZE;
 use leskofar_reference::maker::Maker;
@@ -20,6 +20,11 @@ const MIDDLE: usize = 30;
 /// The nests that are printed: one that costs a call for each term, and one
 /// that costs none.
 const NESTS: [&str; 2] = ["bodies before a pattern", "only arguments"];
+/// Numbers of flat terms, with as many digits as short names have letters.
+const NUMBERS: [(&str, i64); 2] = [
+    ("flat, positive numbers", 123_456_789),
+    ("flat, negative numbers", -123_456_789),
+];
 /// Entries that all ranges of a book share.
 const ENTRIES: [usize; 4] = [256, 512, 1024, 2048];
 
@@ -79,6 +84,11 @@ fn bench_printing() {
         for (name, letters) in [("flat, short names", SHORT), ("flat, long names", LONG)] {
             for terms in TERMS {
                 bench_print(name, &flat(terms - 1, letters), newlines);
+            }
+        }
+        for (name, x) in NUMBERS {
+            for terms in TERMS {
+                bench_print(name, &flat_numbers(terms - 1, x), newlines);
             }
         }
         for shape in NESTS {

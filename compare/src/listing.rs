@@ -7,7 +7,7 @@ use crate::listing_shapes::{visit_listing, LISTING_SHAPES};
 use crate::made_books::{chain, faulty_books, full, good_books};
 use crate::made_rules::missing_axiom;
 use crate::made_terms::borders;
-use crate::printed::{compare, left, rooms_around, told, LONGER, ON_A_BOOK, SHORT_ROOMS};
+use crate::printed::{compare, left, rooms_around, told, Left, LONGER, ON_A_BOOK, SHORT_ROOMS};
 use crate::random_inputs::{any_book, any_number, any_term, good_book, scratch_length};
 use crate::shapes::SHAPES;
 use crate::tally::{Met, Tally};
@@ -41,7 +41,8 @@ pub struct Listing<'b> {
 }
 
 impl Listing<'_> {
-    pub fn compare(self, room: usize, scratch: usize, met: &mut Met) -> Result<(), String> {
+    /// Gives what the library left.
+    pub fn compare(self, room: usize, scratch: usize, met: &mut Met) -> Result<Left, String> {
         let Listing { book, node, goal } = self;
         let theirs = left(room, scratch, |scratch, text| {
             told(leskofar_reference::listing(book, scratch, node, goal, text))

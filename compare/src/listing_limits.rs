@@ -49,9 +49,10 @@ fn compare_wrapped(met: &mut Met) -> Result<(), String> {
     }
     let m = longest(letters as usize, 1);
     let book = m.book();
-    rooms_around(rest, 0)
-        .into_iter()
-        .try_for_each(|room| last(&m, &book).compare(room, SCRATCH_SIZE, met))
+    for room in rooms_around(rest, 0) {
+        last(&m, &book).compare(room, SCRATCH_SIZE, met)?;
+    }
+    Ok(())
 }
 
 pub fn run(tally: &mut Tally) {

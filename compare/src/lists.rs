@@ -1,6 +1,7 @@
 //! Lists of session calls on one book. What is present and owed is taken from
 //! the accepted calls alone, and a reader of their text holds the live levels
-//! against what the book alone gives. In between come calls on foreign
+//! against what the book alone gives; where the book's names are sane, the
+//! strict reader of SMT-LIB reads it too. In between come calls on foreign
 //! images, damaged books and short scratches, which leave the list alone.
 
 use crate::calls::{Call, Given, Left, Measure};
@@ -9,6 +10,7 @@ use crate::random_calls::random_call;
 use crate::seen::Seen;
 use crate::session_library::{self as library, PROVED, UNPROVED};
 use crate::session_shapes::{cyclic, Travelled};
+use crate::strict::Strict;
 use leskofar_reference::book_test::{check, SCRATCH_SIZE};
 use leskofar_reference::commands::LINE_END;
 use leskofar_reference::damage::damaged;
@@ -32,6 +34,8 @@ pub struct List<'l, 'b> {
     /// As the library left it.
     image: Vec<u8>,
     reader: Reader,
+    /// Where the book's names are sane.
+    strict: Option<Strict>,
     node: u32,
     goal: Option<u32>,
     owed: Owed,
@@ -49,6 +53,7 @@ impl<'l, 'b> List<'l, 'b> {
             cyclic: cyclic(program),
             image,
             reader: Reader::default(),
+            strict: Strict::new(book, program),
             node: ROOT as u32,
             goal: None,
             owed: Owed::Nothing,
@@ -139,6 +144,12 @@ impl<'l, 'b> List<'l, 'b> {
         }
         let levels = self.read(left.text())?;
         seen.levels += 1;
+        if let Some(strict) = &mut self.strict {
+            seen.strict_lines += strict.read(left.text())?;
+            if let Call::Ask { goal, .. } = call {
+                seen.strict_prints += strict.read_prints(self.book, self.program, *goal)?;
+            }
+        }
         if let Call::Move { .. } | Call::Ask { .. } = call {
             let travelled = Travelled {
                 program: self.program,

@@ -107,6 +107,8 @@ type Step = fn(&mut Nest, u32) -> u32;
 
 struct Nest {
     maker: Maker,
+    /// What the leaves are, if they are not the constant.
+    number: Option<i64>,
     /// Its constant, and range of a list of that constant alone.
     v: u32,
     vv: [u32; 2],
@@ -118,7 +120,10 @@ struct Nest {
 
 impl Nest {
     fn leaf(&mut self) -> u32 {
-        self.maker.id(self.v)
+        match self.number {
+            Some(x) => self.maker.integer(x),
+            None => self.maker.id(self.v),
+        }
     }
 
     fn appl(&mut self, args: &[u32]) -> u32 {
@@ -196,7 +201,15 @@ pub fn nests() -> Vec<(&'static str, Maker)> {
 /// The same with so many terms at most.
 pub fn nests_of(most: usize) -> Vec<(&'static str, Maker)> {
     STEPS
-        .map(|(name, terms, step)| (name, nest(most, terms, step)))
+        .map(|(name, terms, step)| (name, nest(most, terms, step, None)))
+        .into()
+}
+
+/// The same with a number for each leaf, and as many terms as there can be.
+pub fn nests_of_number(x: i64) -> Vec<(&'static str, Maker)> {
+    let most = Section::Terms.most();
+    STEPS
+        .map(|(name, terms, step)| (name, nest(most, terms, step, Some(x))))
         .into()
 }
 
@@ -204,7 +217,7 @@ pub fn nests_of(most: usize) -> Vec<(&'static str, Maker)> {
 pub fn nest_of(shape: &str, most: usize) -> Maker {
     let found = STEPS.into_iter().find(|(name, ..)| *name == shape);
     let (_, terms, step) = found.expect("the name of a shape");
-    nest(most, terms, step)
+    nest(most, terms, step, None)
 }
 
 /// A term with so many arguments of so many letters, the last of its book.
@@ -216,7 +229,15 @@ pub fn flat(arguments: usize, letters: usize) -> Maker {
     m
 }
 
-/// Nodes as deep as they can be, each with such a term, and so many terms in
+/// The same with arguments that are one number.
+pub fn flat_numbers(arguments: usize, x: i64) -> Maker {
+    let mut m = Maker::default();
+    let args: Vec<u32> = (0..arguments).map(|_| m.integer(x)).collect();
+    m.built_in("+", &args);
+    m
+}
+
+/// Nodes as deep as they can be, each with a flat term, and so many terms in
 /// all; the last is the last node's.
 pub fn deepest_path(terms: usize, letters: usize) -> Maker {
     let mut m = Maker::default();
@@ -253,7 +274,7 @@ pub fn long_names(letters: usize) -> Maker {
     m
 }
 
-fn nest(most: usize, terms: usize, step: Step) -> Maker {
+fn nest(most: usize, terms: usize, step: Step, number: Option<i64>) -> Maker {
     let mut maker = Maker::default();
     let v = maker.constant("v", INT);
     let vv = maker.list(&[v]);
@@ -262,6 +283,7 @@ fn nest(most: usize, terms: usize, step: Step) -> Maker {
     let patterns = maker.list(&[empty]);
     let mut n = Nest {
         maker,
+        number,
         v,
         vv,
         op,

@@ -24,6 +24,12 @@ pub struct Left {
     scratch: Vec<u8>,
 }
 
+impl Left {
+    pub fn text(&self) -> &[u8] {
+        &self.text.content()[..self.answer.length as usize]
+    }
+}
+
 /// Runs a call with a text buffer of `room` bytes and bytes behind it.
 pub fn left(
     room: usize,
@@ -51,13 +57,14 @@ pub fn told(answer: Result<usize, u32>) -> Printed {
     }
 }
 
-/// Compares what both leave; `what` says which call it was.
+/// Compares what both leave; `what` says which call it was. Gives what the
+/// library left.
 pub fn compare(
     met: &mut Met,
     theirs: Left,
     ours: Left,
     what: impl FnOnce() -> String,
-) -> Result<(), String> {
+) -> Result<Left, String> {
     met.add(theirs.answer.refusal);
     if ours.answer != theirs.answer {
         let [ours, theirs] = [ours.answer, theirs.answer];
@@ -70,7 +77,7 @@ pub fn compare(
             what()
         ));
     }
-    Ok(())
+    Ok(ours)
 }
 
 /// Buffers exactly long enough for a text, one byte less, empty and longer.

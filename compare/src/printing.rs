@@ -4,18 +4,15 @@
 use crate::library;
 use crate::made_books::{chain, full, good_books};
 use crate::made_terms::{borders, nests};
-use crate::printed::{compare, left, rooms_around, told, LONGER, LONGEST, ON_A_BOOK, SHORT_ROOMS};
+use crate::print_call::{compare_last, compare_terms, Print, FLAGS, INDENTS, ONE_LINE, TAGS};
+use crate::printed::{compare, left, told, LONGER, LONGEST, ON_A_BOOK, SHORT_ROOMS};
 use crate::random_inputs::{any_book, any_number, any_term, good_book, scratch_length};
 use crate::shapes::{visit, SHAPES};
 use crate::tally::{Met, Tally};
 use leskofar_reference::book_test::{check, MOST_DEPTH, SCRATCH_SIZE};
-use leskofar_reference::lower::to_sexpr;
 use leskofar_reference::maker::{sample, small};
 use leskofar_reference::operators::NAMES;
-use leskofar_reference::program::Program;
 use leskofar_reference::random::Random;
-use leskofar_reference::sexpr::SExprPrintConfig;
-use leskofar_reference::sink::Sink;
 
 const SEED: u64 = 0x7072_696E;
 /// Random terms, each printed in both layouts.
@@ -26,65 +23,8 @@ const TERMS_OF_A_BOOK: usize = 8;
 const RANDOM_NODES: usize = 40_000;
 /// Random calls on bad books, or for terms that are not there.
 const REFUSED_CALLS: usize = 40_000;
-const INDENTS: [u64; 5] = [0, 1, 7, 1 << 32, u64::MAX];
-const TAGS: [u64; 4] = [0, 7, 1 << 32, u64::MAX];
-/// Flags for a line for each part.
-const FLAGS: [u32; 5] = [1, 7, 256, 1 << 31, u32::MAX];
-const ONE_LINE: u32 = 0;
 /// Operator codes whose low bytes are those of good ones, and the last.
 const FAR_CODES: [u32; 4] = [1 << 8 | 1, 1 << 16 | 2, 1 << 31 | 3, u32::MAX];
-
-/// A call of print but for its buffers.
-#[derive(Clone, Copy, Debug)]
-struct Print<'b> {
-    book: &'b [u8],
-    term: u32,
-    tag: u64,
-    newlines: u32,
-    indent: u64,
-}
-
-impl Print<'_> {
-    fn compare(self, room: usize, scratch: usize, met: &mut Met) -> Result<(), String> {
-        let Print {
-            book,
-            term,
-            tag,
-            newlines,
-            indent,
-        } = self;
-        let theirs = left(room, scratch, |scratch, text| {
-            let newlines = newlines != 0;
-            told(leskofar_reference::print(
-                book, scratch, term, tag, newlines, indent, text,
-            ))
-        });
-        let ours = left(room, scratch, |scratch, text| {
-            library::print(book, scratch, term, tag, newlines, indent, text)
-        });
-        compare(met, theirs, ours, || {
-            format!("buffer {room}, scratch {scratch}, {self:?}")
-        })
-    }
-
-    /// The length of the text, as the reference measures it.
-    fn length(self, program: &Program) -> u64 {
-        let config = SExprPrintConfig {
-            newlines: self.newlines != 0,
-            indent: self.indent,
-        };
-        let mut sink = Sink::new(0);
-        to_sexpr(program, self.term as usize, self.tag).print(config, &mut sink);
-        sink.length()
-    }
-
-    /// With buffers exactly long enough, one byte less, empty and longer.
-    fn compare_around(self, length: u64, longer: usize, met: &mut Met) -> Result<(), String> {
-        rooms_around(length, longer)
-            .into_iter()
-            .try_for_each(|room| self.compare(room, SCRATCH_SIZE, met))
-    }
-}
 
 /// A call of trace but for its buffers.
 fn compare_trace(
@@ -103,29 +43,7 @@ fn compare_trace(
     compare(met, theirs, ours, || {
         format!("trace of node {node}, buffer {room}, scratch {scratch}, of {book:?}")
     })
-}
-
-/// Every term of a book, in every layout.
-fn compare_terms(book: &[u8], met: &mut Met) -> Result<(), String> {
-    let program = check(book).map_err(|refusal| format!("refused {refusal}"))?;
-    for term in 0..program.terms.len() as u32 {
-        for tag in TAGS {
-            for indent in INDENTS {
-                for newlines in [ONE_LINE, FLAGS[0]] {
-                    let call = Print {
-                        book,
-                        term,
-                        tag,
-                        newlines,
-                        indent,
-                    };
-                    let length = call.length(&program);
-                    call.compare_around(length, 0, met)?;
-                }
-            }
-        }
-    }
-    Ok(())
+    .map(|_| ())
 }
 
 fn print_groups(tally: &mut Tally) {
@@ -159,21 +77,7 @@ fn print_groups(tally: &mut Tally) {
     tally.group("print, as deep as a book can nest", || {
         let mut met = Met::default();
         for (name, m) in nests() {
-            let book = m.book();
-            let program = check(&book).map_err(|refusal| format!("{name}: refused {refusal}"))?;
-            for indent in INDENTS {
-                for newlines in [ONE_LINE, FLAGS[0]] {
-                    let call = Print {
-                        book: &book,
-                        term: program.terms.len() as u32 - 1,
-                        tag: 0,
-                        newlines,
-                        indent,
-                    };
-                    call.compare_around(call.length(&program), 0, &mut met)
-                        .map_err(|difference| format!("{name}: {difference}"))?;
-                }
-            }
+            compare_last(&m, &mut met).map_err(|difference| format!("{name}: {difference}"))?;
         }
         met.all_of(&[0, 10])
     });

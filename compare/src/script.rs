@@ -11,6 +11,7 @@ use leskofar_reference::random::{Random, AT_TIMES, HARDLY_EVER, OFTEN, RARELY};
 use leskofar_reference::random_books::{random_book, Counts};
 use leskofar_reference::script;
 use leskofar_reference::script::{ASK, CALL_SIZE, INPUT_MOST, MOVE, TEXT_SIZE};
+use leskofar_reference::smtlib::Reader;
 use std::io::Write;
 use std::process::{Command, Stdio};
 
@@ -29,6 +30,8 @@ const STOPS: usize = 256;
 /// A constant's name, and how often the goal that fills the buffer names it.
 const LONG_NAME: usize = 7_200;
 const TIMES: usize = 8;
+/// How many negative numbers it has besides.
+const NEGATIVES: [usize; 2] = [0, 16];
 /// What the program prints last of an ask before the reply.
 const CHECK: &str = "(check-sat)\n";
 /// Beside the refusals' numbers: a stop, and 0 for an output without either.
@@ -111,11 +114,13 @@ fn random_calls(random: &mut Random, maker: &Maker) -> Vec<[u32; 3]> {
         .collect()
 }
 
-/// An ask whose text is longer by one for each letter of the operator.
-fn long_ask(operator: usize) -> Vec<u8> {
+/// An ask whose text is longer by one for each letter of the operator, with so
+/// many negative numbers.
+fn long_ask(operator: usize, negatives: usize) -> Vec<u8> {
     let mut m = Maker::default();
     let long = m.constant(&"x".repeat(LONG_NAME), INT);
-    let args: Vec<u32> = (0..TIMES).map(|_| m.id(long)).collect();
+    let mut args: Vec<u32> = (0..TIMES).map(|_| m.id(long)).collect();
+    args.extend((0..negatives).map(|_| m.integer(i64::MIN)));
     let goal = m.built_in(&"y".repeat(operator), &args);
     input(
         &m.book(),
@@ -140,6 +145,10 @@ pub fn run(tally: &mut Tally) {
             if compare(&stdin, &mut met)? != stdout {
                 return Err("crates/script/stdout is not the reference's".into());
             }
+            // What the program says for itself is a comment.
+            Reader::default()
+                .read(&stdout)
+                .map_err(|refused| refused.to_string())?;
             met.all_of(&[7, STOP])
         },
     );
@@ -175,17 +184,20 @@ pub fn run(tally: &mut Tally) {
     });
     tally.group("script, texts that fill the buffer", || {
         let mut met = Met::default();
-        let size = |operator| {
-            let text = String::from_utf8_lossy(&script(&long_ask(operator))).into_owned();
-            text.find(CHECK).map(|at| at + CHECK.len())
-        };
-        let base = size(1).ok_or("refused")?;
-        let filling = TEXT_SIZE - base + 1;
-        if size(filling) != Some(TEXT_SIZE) {
-            return Err("the buffer is not filled".into());
-        }
-        for operator in [filling - 1, filling, filling + 1, filling + 2] {
-            compare(&long_ask(operator), &mut met)?;
+        for negatives in NEGATIVES {
+            let size = |operator| {
+                let text = script(&long_ask(operator, negatives));
+                let text = String::from_utf8_lossy(&text).into_owned();
+                text.find(CHECK).map(|at| at + CHECK.len())
+            };
+            let base = size(1).ok_or("refused")?;
+            let filling = TEXT_SIZE - base + 1;
+            if size(filling) != Some(TEXT_SIZE) {
+                return Err("the buffer is not filled".into());
+            }
+            for operator in [filling - 1, filling, filling + 1, filling + 2] {
+                compare(&long_ask(operator, negatives), &mut met)?;
+            }
         }
         met.all_of(&[0, 10])
     });

@@ -41,9 +41,23 @@ pub struct Seen {
     pub reasons: Met<u8>,
     /// Accepted calls whose live levels were held against the book's.
     pub levels: usize,
+    /// What the strict reader read: lines of text, and prints of goals.
+    pub strict_lines: usize,
+    pub strict_prints: usize,
 }
 
 impl Seen {
+    /// How much the strict reader read. Fails if that is nothing.
+    pub fn read_strictly(&self) -> Result<String, String> {
+        let [lines, prints] = [self.strict_lines, self.strict_prints];
+        let said = format!("{lines} lines and {prints} prints read strictly");
+        if lines > 0 && prints > 0 {
+            Ok(said)
+        } else {
+            Err(said)
+        }
+    }
+
     pub fn add(&mut self, call: &Call, left: &Left) {
         let [refusal, result] = [left.answer.refusal, left.answer.result];
         let (at, name) = match call {

@@ -17,7 +17,7 @@ const ROOM: usize = 1 << 10;
 
 /// To the last node, its questions with every end, to the one before it, and
 /// back; each call with a text buffer too short by one, then long enough.
-fn tour(m: &Maker, measure: &mut Measure, seen: &mut Seen) -> Result<(), String> {
+pub fn tour(m: &Maker, measure: &mut Measure, seen: &mut Seen) -> Result<(), String> {
     let node = m.contexts.len() as u32;
     let goal = m.terms.len() as u32 - 1;
     let ask = Call::Ask { node, goal };

@@ -28,36 +28,40 @@ const LARGE: usize = 60;
 const LISTS_AT_LIMITS: usize = 8;
 
 /// The sample's session, with the text of document 01.
-const MOVE_2: &str = "(push)
+const MOVE_2: &str = "(push 1)
 (declare-fun x () Int)
 (assert (< 0 x))
-(push)
+(push 1)
 (declare-fun y () Int)
 (declare-fun f (Int) Int)
 (assert (forall ((z Int)) (= (f z) z)))
 (assert (= y (f x)))
 ";
-const MOVE_3: &str = "(pop)
-(push)
+const MOVE_3: &str = "(pop 1)
+(push 1)
 (assert (< x 9))
 ";
-const ASK_3: &str = "(push)
+const ASK_3: &str = "(push 1)
 (declare-fun f (Int) Int)
 (assert (forall ((z Int)) (= (f z) z)))
 (declare-fun y () Int)
-(push)
+(push 1)
 (assert (not (< 0 (f y))))
 (check-sat)
 ";
-const END: &str = "(pop)
-(pop)
+pub const END: &str = "(pop 1)
+(pop 1)
 ";
 const GET_MODEL: &str = "(get-model)
 ";
 
 /// Calls with their texts and reasons, each with a buffer that is just long
 /// enough after one that is too short by a byte.
-fn follow(list: &mut List, calls: &[(Call, &str, &[u8])], seen: &mut Seen) -> Result<(), String> {
+pub fn follow(
+    list: &mut List,
+    calls: &[(Call, &str, &[u8])],
+    seen: &mut Seen,
+) -> Result<(), String> {
     for (call, text, reason) in calls {
         let [text_room, reason_room] = [text.len(), reason.len()];
         let mut short = vec![];
@@ -128,7 +132,7 @@ fn made_groups(tally: &mut Tally) {
 }
 
 /// A list of random calls, and the image that it leaves.
-fn random_list(
+pub fn random_list(
     random: &mut Random,
     m: &Maker,
     other: &[u8],
@@ -178,7 +182,11 @@ fn random_groups(tally: &mut Tally) {
         seen.images.all_of(&manners())?;
         let every_byte: Vec<u8> = (0..=u8::MAX).collect();
         seen.reasons.all_of(&every_byte)?;
-        let mut said = format!("{lists} lists, levels held {} times", seen.levels);
+        let mut said = format!(
+            "{lists} lists, levels held {} times, {}",
+            seen.levels,
+            seen.read_strictly()?
+        );
         for ((call, numbers), met) in REFUSALS.iter().zip(&seen.refusals) {
             let met = met
                 .all_of(numbers)

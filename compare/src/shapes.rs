@@ -3,9 +3,10 @@
 use leskofar_reference::lower::TAG;
 use leskofar_reference::program::{Program, RExpr, ROperator};
 
-pub const SHAPES: [&str; 17] = [
+pub const SHAPES: [&str; 18] = [
     "boolean",
     "integer",
+    "negative integer",
     "least integer",
     "largest integer",
     "literal",
@@ -29,6 +30,7 @@ pub fn visit(program: &Program, term: usize, see: &mut impl FnMut(&'static str))
         RExpr::Boolean(_) => see("boolean"),
         RExpr::Integer(i64::MIN) => see("least integer"),
         RExpr::Integer(i64::MAX) => see("largest integer"),
+        RExpr::Integer(..0) => see("negative integer"),
         RExpr::Integer(_) => see("integer"),
         RExpr::CustomLiteral { s, .. } => see(if *s == TAG { "%tag" } else { "literal" }),
         RExpr::Id(v) if program.constants[*v].name.is_empty() => see("empty constant name"),

@@ -4,8 +4,10 @@ use crate::sexpr::{SExpr, SExprPrintConfig};
 use crate::sink::Sink;
 
 pub const LINE_END: u8 = 0x0A;
-pub const CMD_PUSH: &[u8] = b"(push)";
-pub const CMD_POP: &[u8] = b"(pop)";
+/// SMT-LIB 2.6 decides here over the Dafny constants, the first departure:
+/// its push and pop have a numeral.
+pub const CMD_PUSH: &[u8] = b"(push 1)";
+pub const CMD_POP: &[u8] = b"(pop 1)";
 pub const CMD_CHECK_SAT: &[u8] = b"(check-sat)";
 pub const CMD_GET_MODEL: &[u8] = b"(get-model)";
 

@@ -27,6 +27,7 @@ pub mod script;
 pub mod session;
 pub mod sexpr;
 pub mod sink;
+pub mod smtlib;
 pub mod stack;
 pub mod walk;
 

@@ -13,7 +13,7 @@ pub const TAG: &[u8] = b"%tag";
 pub fn to_sexpr<'b>(program: &Program<'b>, term: usize, tag: u64) -> SExpr<'b> {
     match &program.terms[term] {
         RExpr::Boolean(b) => SExpr::boolean(*b),
-        RExpr::Integer(x) => SExpr::integer(x),
+        RExpr::Integer(x) => SExpr::integer(*x),
         RExpr::CustomLiteral { s, typ } => literal_to_sexpr(program, s, *typ, tag),
         RExpr::Id(v) => SExpr::name(program.constants[*v].name),
         RExpr::FuncAppl { op, args } => {
@@ -47,7 +47,7 @@ fn to_sexprs<'b>(program: &Program<'b>, terms: &[usize], tag: u64) -> Vec<SExpr<
 
 fn literal_to_sexpr<'b>(program: &Program<'b>, s: &[u8], typ: SType, tag: u64) -> SExpr<'b> {
     if s == TAG {
-        SExpr::integer(tag)
+        SExpr::numeral(tag)
     } else {
         SExpr::S(Cow::Owned(custom_literal_to_sexpr_name(program, s, typ)))
     }

@@ -52,6 +52,7 @@ impl<'b> SExpr<'b> {
     const FALSE: &'static [u8] = b"false";
     const TRUE: &'static [u8] = b"true";
     const NOT: &'static [u8] = b"not";
+    const MINUS: &'static [u8] = b"-";
 
     /// The Dafny `ToString`.
     pub fn print(&self, config: SExprPrintConfig, sink: &mut Sink) {
@@ -82,9 +83,22 @@ impl<'b> SExpr<'b> {
         SExpr::name(if b { Self::TRUE } else { Self::FALSE })
     }
 
-    /// The name that a number's decimal digits make (`Int2String`).
-    pub fn integer(x: impl ToString) -> SExpr<'b> {
-        SExpr::S(Cow::Owned(x.to_string().into_bytes()))
+    /// The name that a number's decimal digits make.
+    pub fn numeral(n: u64) -> SExpr<'b> {
+        SExpr::S(Cow::Owned(n.to_string().into_bytes()))
+    }
+
+    /// The Dafny body makes one name of every number. SMT-LIB 2.6 decides
+    /// here over it, the first departure: it reads `-5` as a symbol, so a
+    /// negative number is a minus applied to the numeral. That of the least
+    /// one is no i64.
+    pub fn integer(x: i64) -> SExpr<'b> {
+        let magnitude = SExpr::numeral(x.unsigned_abs());
+        if x < 0 {
+            SExpr::func_appl(Self::MINUS, vec![magnitude])
+        } else {
+            magnitude
+        }
     }
 
     /// An operator without arguments is its bare name.

@@ -2,7 +2,8 @@
 
 use crate::book_test::{FIRST_LETTER, LAST_LETTER};
 use crate::plan::error::{refuse, Position, Result};
-use crate::plan::words::{is_integer, is_symbol_byte, may_stand_in_bars, string, symbol};
+use crate::plan::words::{is_integer, may_stand_in_bars, string, symbol};
+use crate::smtlib::words::is_symbol_byte;
 use std::fmt;
 
 #[derive(Clone, Debug, PartialEq, Eq)]

@@ -18,7 +18,6 @@ mod packing;
 mod parser;
 mod places;
 mod scope;
-mod signatures;
 mod sorts;
 mod storage;
 mod syntax;

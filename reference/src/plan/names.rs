@@ -4,14 +4,13 @@
 use crate::book::FIRST_USER_TYPE;
 use crate::lower::{custom_literal_to_sexpr_name, TAG};
 use crate::plan::complaint::{Complaint, Record};
-use crate::plan::signatures::operators;
 use crate::plan::tokens::{
     is_number, is_symbol, looks_like_number, may_stand_between_bars, symbol_of,
 };
-use crate::plan::words::{
-    is_smt_lib_word, text_of, BOOL_TYPE, EXISTS, FALSE, FORALL, INT_TYPE, ITE, LET, TRUE,
-};
+use crate::plan::words::{text_of, BOOL_TYPE, EXISTS, FALSE, FORALL, INT_TYPE, ITE, LET, TRUE};
 use crate::program::{Program, RExpr, ROperator, SType};
+use crate::smtlib::signatures::operators;
+use crate::smtlib::words::is_reserved;
 use std::collections::HashMap;
 
 const A_SYMBOL: &str = "a symbol of SMT-LIB";
@@ -73,7 +72,7 @@ fn declared(space: &mut Space, record: Record, name: &[u8]) -> Option<Complaint>
         Some(complain(A_SYMBOL))
     } else if looks_like_number(symbol_of(name)) {
         Some(complain(NO_NUMBER))
-    } else if is_reserved(name) {
+    } else if has_reserved_name(name) {
         Some(complain(NOT_RESERVED))
     } else {
         Some(clash?.complaint(record, name))
@@ -107,15 +106,15 @@ fn built_in(space: &mut Space, record: Record, name: &[u8]) -> Option<Complaint>
     let complain = |expected| Complaint::of_names(record, expected, shown(name));
     if !is_symbol(name) && !is_number(name) {
         Some(complain(A_SYMBOL_OR_NUMBER))
-    } else if is_reserved(name) {
+    } else if has_reserved_name(name) {
         Some(complain(NOT_RESERVED))
     } else {
         Some(clash?.complaint(record, name))
     }
 }
 
-fn is_reserved(name: &[u8]) -> bool {
-    is_smt_lib_word(&text_of(symbol_of(name)))
+fn has_reserved_name(name: &[u8]) -> bool {
+    is_reserved(symbol_of(name))
 }
 
 fn shown(name: &[u8]) -> String {

@@ -4,10 +4,10 @@
 use crate::book::FIRST_USER_TYPE;
 use crate::lower::TAG;
 use crate::plan::complaint::{Complaint, Record};
-use crate::plan::signatures::{signature, Signature};
 use crate::plan::tokens::symbol_of;
 use crate::plan::words::{text_of, BOOL_TYPE, EXISTS, FORALL, INT_TYPE};
 use crate::program::{Program, RExpr, ROperator, SType};
+use crate::smtlib::signatures::{signature, Signature};
 
 /// None is any sort: what an operator gives that is not known here.
 type Sort = Option<SType>;

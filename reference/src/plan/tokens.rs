@@ -1,6 +1,7 @@
 //! What a solver reads as one token of SMT-LIB.
 
-use crate::plan::words::{is_symbol_byte, may_stand_in_bars, BAR};
+use crate::plan::words::{may_stand_in_bars, BAR};
+use crate::smtlib::words::is_simple_symbol;
 
 /// A name without its bars where it stands between bars: to a solver both are
 /// the same symbol.
@@ -25,11 +26,6 @@ pub fn may_stand_between_bars(content: &[u8]) -> bool {
         .copied()
         .map(char::from)
         .all(may_stand_in_bars)
-}
-
-fn is_simple_symbol(name: &[u8]) -> bool {
-    let begins = name.first().is_some_and(|first| !first.is_ascii_digit());
-    begins && name.iter().copied().all(is_symbol_byte)
 }
 
 /// A number as SMT-LIB writes it: `10`, `1.5`, `#xA0`, `#b10`.

@@ -1,6 +1,7 @@
 //! The form's own words, and how names and strings are written.
 
-use crate::plan::signatures::signature;
+use crate::smtlib::signatures::signature;
+use crate::smtlib::words::{is_reserved, is_simple_symbol};
 
 /// The words that items begin with.
 pub const LETTERS: &str = "letters";
@@ -44,55 +45,6 @@ pub const LITERAL_SEPARATOR: &str = ":";
 const TERM_WORDS: [&str; 10] = [
     TRUE, FALSE, ITE, LET, FORALL, EXISTS, ANNOTATED, LITERAL, BUILT_IN, TAG,
 ];
-/// SMT-LIB 2.6's reserved words, the names of its commands among them. A
-/// solver takes none of them as a name, z3 not even between bars.
-const SMT_LIB_WORDS: [&str; 43] = [
-    "!",
-    "_",
-    "as",
-    "BINARY",
-    "DECIMAL",
-    "exists",
-    "HEXADECIMAL",
-    "forall",
-    "let",
-    "match",
-    "NUMERAL",
-    "par",
-    "STRING",
-    "assert",
-    "check-sat",
-    "check-sat-assuming",
-    "declare-const",
-    "declare-datatype",
-    "declare-datatypes",
-    "declare-fun",
-    "declare-sort",
-    "define-fun",
-    "define-fun-rec",
-    "define-funs-rec",
-    "define-sort",
-    "echo",
-    "exit",
-    "get-assertions",
-    "get-assignment",
-    "get-info",
-    "get-model",
-    "get-option",
-    "get-proof",
-    "get-unsat-assumptions",
-    "get-unsat-core",
-    "get-value",
-    "pop",
-    "push",
-    "reset",
-    "reset-assertions",
-    "set-info",
-    "set-logic",
-    "set-option",
-];
-/// What a symbol may hold besides letters and digits, by SMT-LIB.
-const SYMBOL_SIGNS: &[u8] = b"~!@$%^&*_-+=<>.?/";
 
 pub const BAR: char = '|';
 const BACKSLASH: char = '\\';
@@ -106,23 +58,15 @@ pub fn is_operator(text: &str) -> bool {
 
 /// What no constant, function or term can be called in a plan.
 pub fn is_reserved_symbol(text: &str) -> bool {
-    TERM_WORDS.contains(&text) || is_operator(text) || is_smt_lib_word(text)
+    TERM_WORDS.contains(&text) || is_operator(text) || is_reserved(text.as_bytes())
 }
 
 pub fn is_reserved_type(text: &str) -> bool {
-    [BOOL_TYPE, INT_TYPE].contains(&text) || is_smt_lib_word(text)
-}
-
-pub fn is_smt_lib_word(text: &str) -> bool {
-    SMT_LIB_WORDS.contains(&text)
+    [BOOL_TYPE, INT_TYPE].contains(&text) || is_reserved(text.as_bytes())
 }
 
 pub fn is_reserved_node(text: &str) -> bool {
     text == ROOT_NODE
-}
-
-pub fn is_symbol_byte(byte: u8) -> bool {
-    byte.is_ascii_alphanumeric() || SYMBOL_SIGNS.contains(&byte)
 }
 
 /// Digits, with a minus before them or not.
@@ -133,11 +77,7 @@ pub fn is_integer(text: &str) -> bool {
 
 /// A symbol that needs no bars.
 pub fn is_simple(text: &str) -> bool {
-    let begins = text
-        .bytes()
-        .next()
-        .is_some_and(|byte| !byte.is_ascii_digit());
-    begins && text.bytes().all(is_symbol_byte) && !is_integer(text)
+    is_simple_symbol(text.as_bytes()) && !is_integer(text)
 }
 
 /// The bars' content may have any letters but these two, by SMT-LIB.

@@ -295,26 +295,26 @@ fn the_sample_session() {
         input.extend(number.to_le_bytes());
     }
     let expected = "\
-(push)
+(push 1)
 (declare-fun x () Int)
 (assert (< 0 x))
-(push)
+(push 1)
 (declare-fun y () Int)
 (declare-fun f (Int) Int)
 (assert (forall ((z Int)) (= (f z) z)))
 (assert (= y (f x)))
-(pop)
-(push)
+(pop 1)
+(push 1)
 (assert (< x 9))
-(push)
+(push 1)
 (declare-fun f (Int) Int)
 (assert (forall ((z Int)) (= (f z) z)))
 (declare-fun y () Int)
-(push)
+(push 1)
 (assert (not (< 0 (f y))))
 (check-sat)
-(pop)
-(pop)
+(pop 1)
+(pop 1)
 ";
     assert_eq!(String::from_utf8_lossy(&script(&input)), expected);
 }

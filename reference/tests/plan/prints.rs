@@ -8,7 +8,7 @@ use leskofar_reference::maker::Maker;
 use leskofar_reference::operators;
 use leskofar_reference::plan::{read, Options};
 use leskofar_reference::print;
-use leskofar_reference::program::{Program, RExpr, SType};
+use leskofar_reference::program::{Program, RExpr, ROperator, SType};
 use leskofar_reference::random::Random;
 use leskofar_reference::random_books::{random_book, Counts};
 
@@ -70,7 +70,21 @@ fn with_tags(print: &str) -> String {
     print.replace(&TAG_NUMBER.to_string(), "%tag")
 }
 
-/// A print leaves out quantifiers without variables, and a tag's type.
+/// A plan writes a number with its sign, and none needs more than 64 bits: it
+/// has no numeral that a minus could be applied to for the least one.
+fn with_least(print: &str) -> String {
+    let numeral = format!("{})", i64::MIN.unsigned_abs());
+    let mut parts: Vec<&str> = print.split(&numeral).collect();
+    let behind = parts.pop().expect("a text has a part");
+    let opened = parts.into_iter().map(|before| {
+        let minus = before.trim_end().strip_suffix("(-");
+        format!("{}{}", minus.expect("an applied minus"), i64::MIN)
+    });
+    opened.chain([behind.to_string()]).collect()
+}
+
+/// A print leaves out quantifiers without variables, and a tag's type; a
+/// negative number is a minus applied to its numeral.
 fn is_same(a: &Program, term_a: usize, b: &Program, term_b: usize) -> bool {
     match (&a.terms[term_a], &b.terms[term_b]) {
         (RExpr::QuantifierExpr { vv, body, .. }, _) if vv.is_empty() => {
@@ -106,6 +120,11 @@ fn is_same(a: &Program, term_a: usize, b: &Program, term_b: usize) -> bool {
         }
         (RExpr::IfThenElse { .. }, RExpr::IfThenElse { .. }) => {
             have_same_children(a, term_a, b, term_b)
+        }
+        (RExpr::Integer(x), RExpr::FuncAppl { op, args }) => {
+            *x < 0
+                && *op == ROperator::BuiltInOperator(b"-")
+                && matches!(args[..], [arg] if b.terms[arg] == RExpr::Integer(-x))
         }
         (leaf_a, leaf) => leaf_a == leaf,
     }
@@ -153,7 +172,7 @@ fn assert_prints_read_back(book: &[u8]) {
     let items = declarations(&program);
     for term in 0..program.terms.len() {
         for (newlines, indent) in LAYOUTS {
-            let print = with_tags(&printed(book, term, newlines, indent));
+            let print = with_least(&with_tags(&printed(book, term, newlines, indent)));
             let plan = read(
                 format!("{items}\n(goal g root {print})").as_bytes(),
                 Options::RAW,

@@ -13,7 +13,7 @@ use leskofar_reference::refusal::{
 };
 use leskofar_reference::{operator, print};
 
-const POPS: &str = "(pop)\n(pop)\n";
+const POPS: &str = "(pop 1)\n(pop 1)\n";
 const GET_MODEL: &str = "(get-model)\n";
 
 #[test]
@@ -160,19 +160,27 @@ fn ten_is_for_short_buffers() {
     assert_eq!(desk.ask(2, sample.goal), whole);
     // Proved and a model owed need no reason buffer.
     desk.reason_size = 0;
-    for short in [0, POPS.len() - 1] {
-        desk.text_size = short;
-        assert_eq!(desk.reply(false, b"unsat"), Err(TOO_LONG));
-        assert_eq!(desk.reply(true, b""), Err(TOO_LONG));
-        assert_eq!(desk.reply(false, b"sat"), Err(TOO_LONG));
+    for (failed, reply, text) in [
+        (false, &b"unsat"[..], POPS),
+        (true, b"", POPS),
+        (false, b"sat", GET_MODEL),
+    ] {
+        for short in [0, text.len() - 1] {
+            desk.text_size = short;
+            assert_eq!(desk.reply(failed, reply), Err(TOO_LONG));
+        }
     }
     desk.text_size = POPS.len();
     assert_eq!(desk.reply(true, b"e"), Err(TOO_LONG));
+    desk.text_size = GET_MODEL.len();
     assert!(desk.reply(false, b"sat").is_ok());
     // 8 comes before 10.
     desk.text_size = 0;
     assert_eq!(desk.model(b"unsat", None), Err(REPLY_UNSAT));
-    assert_eq!(desk.model(b"", None), Err(TOO_LONG));
+    for short in [0, POPS.len() - 1] {
+        desk.text_size = short;
+        assert_eq!(desk.model(b"", None), Err(TOO_LONG));
+    }
     desk.text_size = POPS.len();
     desk.reason_size = 3;
     assert_eq!(desk.model(b"sat", Some(b"")), Err(TOO_LONG));
@@ -228,12 +236,12 @@ fn the_deepest_node() {
     let goal = m.id(x);
     let mut desk = Desk::new(&m);
     let asked = desk.ask(node, goal).expect("accepted");
-    assert_eq!(asked.matches("(push)\n").count(), MOST_DEPTH + 2);
+    assert_eq!(asked.matches("(push 1)\n").count(), MOST_DEPTH + 2);
     // The goal's declaration, at level 65, is not stored.
     assert!(desk.image[16..].iter().all(|level| *level == 0));
     desk.reply(false, b"unsat").expect("accepted");
     let back = desk.move_to(0).expect("accepted");
-    assert_eq!(back, "(pop)\n".repeat(MOST_DEPTH));
+    assert_eq!(back, "(pop 1)\n".repeat(MOST_DEPTH));
 }
 
 /// As many terms as a book has, one in the other, the innermost one applying
@@ -270,7 +278,7 @@ fn the_deepest_terms() {
 
     let text = nested(|m, body| m.quantifier(false, &[], &[], body));
     let expected =
-        "(push)\n(declare-fun f () Int)\n(assert f)\n(push)\n(assert (not f))\n(check-sat)\n";
+        "(push 1)\n(declare-fun f () Int)\n(assert f)\n(push 1)\n(assert (not f))\n(check-sat)\n";
     assert_eq!(text, expected);
 }
 

@@ -29,8 +29,8 @@ const BUFFERS_AT_LIMITS: usize = 1 << 22;
 /// Buffers that are at times too short.
 const NARROW_TEXT: usize = 100;
 const NARROW_REASON: usize = 2;
-const PUSH: &str = "(push)\n";
-const POPS: &str = "(pop)\n(pop)\n";
+const PUSH: &str = "(push 1)\n";
+const POPS: &str = "(pop 1)\n(pop 1)\n";
 const GET_MODEL: &str = "(get-model)\n";
 /// The image's head: kind, node, goal, owed.
 const IMAGE_HEAD: usize = 16;
@@ -136,7 +136,7 @@ impl Run<'_, '_> {
             .map(|at| self.program.depth(at))
             .max()
             .expect("the root is shared");
-        let mut text = "(pop)\n".repeat(self.program.depth(self.node as usize) - s);
+        let mut text = "(pop 1)\n".repeat(self.program.depth(self.node as usize) - s);
         let levels = expected_levels(&self.desk.book, node, goal).expect("accepted");
         for level in &levels[1 + s..] {
             text += PUSH;
@@ -154,18 +154,19 @@ impl Run<'_, '_> {
     fn reply(&mut self, random: &mut Random) -> u32 {
         let bytes = random.pick(&REPLIES);
         let failed = random.one_in(AT_TIMES);
-        let too_long = self.desk.text_size < POPS.len();
+        let ends = failed || bytes == b"unsat";
+        let text = if ends { POPS } else { GET_MODEL };
+        let too_long = self.desk.text_size < text.len();
         let expected = if self.owed != Owed::Reply {
             Err(NO_REPLY_OWED)
         } else if too_long || (failed && bytes.len() > self.desk.reason_size) {
             Err(TOO_LONG)
         } else if failed {
             Ok(unproved(bytes))
-        } else if bytes == b"unsat" {
-            Ok(Answer::Proved { text: POPS.into() })
+        } else if ends {
+            Ok(Answer::Proved { text: text.into() })
         } else {
-            let text = GET_MODEL.into();
-            Ok(Answer::ModelOwed { text })
+            Ok(Answer::ModelOwed { text: text.into() })
         };
         let answer = self.desk.reply(failed, bytes);
         assert_eq!(answer, expected);
@@ -174,7 +175,7 @@ impl Run<'_, '_> {
 
     fn model(&mut self, random: &mut Random) -> u32 {
         let bytes = random.pick(&REPLIES);
-        let came = random.one_in(OFTEN).then_some(&b"m\n(push)"[..]);
+        let came = random.one_in(OFTEN).then_some(&b"m\n(push 1)"[..]);
         let reason = match came {
             None => bytes.to_vec(),
             Some(model) => [bytes, b"\n", model].concat(),

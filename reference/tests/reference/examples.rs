@@ -6,6 +6,7 @@ use leskofar_reference::maker::{sample, small, Maker};
 use leskofar_reference::{print, script};
 
 const TEXT_SIZE: usize = 1_000;
+const LEAST: &str = "(- 9223372036854775808)";
 
 /// A term in one line.
 fn printed(maker: &Maker, term: u32) -> String {
@@ -24,8 +25,8 @@ pub fn printed_with(maker: &Maker, term: u32, tag: u64, newlines: bool, indent: 
 fn p1_to_p3_integers() {
     let small = small();
     assert_eq!(printed(&small.maker, small.zero), "0");
-    assert_eq!(printed(&small.maker, small.minus_five), "-5");
-    assert_eq!(printed(&small.maker, small.least), "-9223372036854775808");
+    assert_eq!(printed(&small.maker, small.minus_five), "(- 5)");
+    assert_eq!(printed(&small.maker, small.least), LEAST);
 }
 
 #[test]
@@ -53,8 +54,8 @@ fn p7_quantifier_without_variables() {
     let small = small();
     assert_eq!(printed(&small.maker, small.no_variables), "b");
     let asked = Desk::new(&small.maker).ask(0, small.no_variables);
-    let expected = "(push)\n(declare-fun a () Bool)\n(declare-fun b () Bool)\n\
-                    (push)\n(assert (not b))\n(check-sat)\n";
+    let expected = "(push 1)\n(declare-fun a () Bool)\n(declare-fun b () Bool)\n\
+                    (push 1)\n(assert (not b))\n(check-sat)\n";
     assert_eq!(asked.as_deref(), Ok(expected));
 }
 
@@ -63,7 +64,7 @@ fn p8_tag() {
     let small = small();
     let moved = Desk::new(&small.maker).move_to(small.tagged_node);
     let expected =
-        "(push)\n(declare-sort T 0)\n(declare-fun t () T)\n(assert (= t 2))\n".to_string();
+        "(push 1)\n(declare-sort T 0)\n(declare-fun t () T)\n(assert (= t 2))\n".to_string();
     assert_eq!(moved, Ok(expected));
 }
 
@@ -81,31 +82,31 @@ fn p9_move_to_the_present_node() {
 fn p10_depth_two_to_the_root() {
     let mut desk = Desk::new(&sample().maker);
     desk.move_to(2).expect("accepted");
-    assert_eq!(desk.move_to(0).as_deref(), Ok("(pop)\n(pop)\n"));
+    assert_eq!(desk.move_to(0).as_deref(), Ok("(pop 1)\n(pop 1)\n"));
 }
 
-const MOVE_2: &str = "(push)
+const MOVE_2: &str = "(push 1)
 (declare-fun x () Int)
 (assert (< 0 x))
-(push)
+(push 1)
 (declare-fun y () Int)
 (declare-fun f (Int) Int)
 (assert (forall ((z Int)) (= (f z) z)))
 (assert (= y (f x)))
 ";
-const MOVE_3: &str = "(pop)
-(push)
+const MOVE_3: &str = "(pop 1)
+(push 1)
 (assert (< x 9))
 ";
-const ASK_3: &str = "(push)
+const ASK_3: &str = "(push 1)
 (declare-fun f (Int) Int)
 (assert (forall ((z Int)) (= (f z) z)))
 (declare-fun y () Int)
-(push)
+(push 1)
 (assert (not (< 0 (f y))))
 (check-sat)
 ";
-const POPS: &str = "(pop)\n(pop)\n";
+const POPS: &str = "(pop 1)\n(pop 1)\n";
 
 #[test]
 fn the_sample_session() {

@@ -14,6 +14,7 @@ mod listing_refusals;
 mod made_books;
 mod naive_listing;
 mod naive_nodes;
+mod negatives;
 mod nodes;
 mod nodes_refusals;
 mod script_program;

@@ -43,7 +43,7 @@ fn a_longer_input_stops_at_once() {
     let book = sample().maker.book();
     let mut whole = input(&book, &[[MOVE, 1, 0]]);
     whole.resize(INPUT_MOST, 1);
-    let moved = "(push)\n(declare-fun x () Int)\n(assert (< 0 x))\n; stopped\n";
+    let moved = "(push 1)\n(declare-fun x () Int)\n(assert (< 0 x))\n; stopped\n";
     assert_eq!(written(&whole), moved);
     whole.push(1);
     assert_eq!(written(&whole), STOPPED);
@@ -66,7 +66,7 @@ fn a_bad_book_refuses_each_call() {
 #[test]
 fn calls_that_stop() {
     let book = sample().maker.book();
-    let pops = "(push)\n(declare-fun x () Int)\n(assert (< 0 x))\n";
+    let pops = "(push 1)\n(declare-fun x () Int)\n(assert (< 0 x))\n";
     for stop in [[0, 0, 0], [3, 1, 0], [MOVE, 1, 1]] {
         let calls = [[MOVE, 1, 0], stop, [MOVE, 2, 0]];
         assert_eq!(written(&input(&book, &calls)), [pops, STOPPED].concat());
@@ -88,7 +88,7 @@ fn it_goes_on_after_refusals() {
     ];
     assert_eq!(
         written(&input(&sample.maker.book(), &calls)),
-        "; refused 7\n; refused 7\n(push)\n(declare-fun x () Int)\n(assert (< 0 x))\n(pop)\n"
+        "; refused 7\n; refused 7\n(push 1)\n(declare-fun x () Int)\n(assert (< 0 x))\n(pop 1)\n"
     );
 }
 
@@ -113,7 +113,7 @@ fn a_text_may_fill_the_buffer() {
         let calls = [[ASK, 0, goal], [MOVE, 0, 0], [ASK, 0, args[0]]];
         written(&input(&m.book(), &calls))
     };
-    let pops = "(pop)\n(pop)\n";
+    let pops = "(pop 1)\n(pop 1)\n";
     let ask_size = |whole: &str| whole.find("(check-sat)\n").map(|at| at + 12);
     let length = 7_200;
     let base = ask_size(&asked(length, 1)).expect("accepted");
@@ -122,6 +122,6 @@ fn a_text_may_fill_the_buffer() {
     assert_eq!(ask_size(&full), Some(TEXT_SIZE));
     assert!(full[TEXT_SIZE..].starts_with(pops));
     let over = asked(length, filling + 1);
-    assert!(over.starts_with("; refused 10\n(push)\n(declare-fun x"));
+    assert!(over.starts_with("; refused 10\n(push 1)\n(declare-fun x"));
     assert!(over.ends_with(pops));
 }

@@ -18,7 +18,7 @@ fn as_string(line: &[u8]) -> String {
 #[test]
 fn levels_come_and_go() {
     assert_eq!(read(""), Ok(vec![vec![]]));
-    let text = "a\n(push)\nb\nb\n(push)\nc\n(pop)\n(check-sat)\n(get-model)\nd\n";
+    let text = "a\n(push 1)\nb\nb\n(push 1)\nc\n(pop 1)\n(check-sat)\n(get-model)\nd\n";
     let live = vec![
         vec!["a".to_string()],
         vec!["b".into(), "b".into(), "d".into()],
@@ -28,16 +28,38 @@ fn levels_come_and_go() {
 
 #[test]
 fn only_whole_lines_are_commands() {
-    let text = "(push) \n(declare-fun (pop) () Int)\n\n";
-    let live = ["(push) ", "(declare-fun (pop) () Int)", ""];
+    let text = "(push 1) \n(declare-fun (pop 1) () Int)\n\n";
+    let live = ["(push 1) ", "(declare-fun (pop 1) () Int)", ""];
     assert_eq!(read(text), Ok(vec![live.map(String::from).to_vec()]));
+}
+
+/// The reader knows the two lines that the text has, with no other numeral.
+#[test]
+fn another_push_or_pop_is_a_line_like_any_other() {
+    let others = [
+        "(push)",
+        "(pop)",
+        "(push 0)",
+        "(push 2)",
+        "(pop 2)",
+        "(push 01)",
+        "(push  1)",
+        "(push 1 )",
+        "( push 1)",
+        "(PUSH 1)",
+    ];
+    for other in others {
+        let text = format!("(push 1)\n{other}\n");
+        assert_eq!(read(&text), Ok(vec![vec![], vec![other.to_string()]]));
+    }
 }
 
 #[test]
 fn the_first_level_is_never_popped() {
-    assert_eq!(read("(pop)\n"), Err(Lost::PoppedFirst));
-    assert_eq!(read("(push)\n(pop)\n(pop)\n"), Err(Lost::PoppedFirst));
-    assert_eq!(read("(push)"), Err(Lost::NoLineEnd));
+    assert_eq!(read("(pop 1)\n"), Err(Lost::PoppedFirst));
+    let text = "(push 1)\n(pop 1)\n(pop 1)\n";
+    assert_eq!(read(text), Err(Lost::PoppedFirst));
+    assert_eq!(read("(push 1)"), Err(Lost::NoLineEnd));
 }
 
 #[test]

@@ -15,7 +15,7 @@ fn asked(m: &Maker, goal: u32) -> Vec<String> {
     };
     assert_eq!(
         [push, second_push, check],
-        ["(push)", "(push)", "(check-sat)"]
+        ["(push 1)", "(push 1)", "(check-sat)"]
     );
     [declared, std::slice::from_ref(negation)].concat()
 }
@@ -264,12 +264,12 @@ fn what_is_declared_above_is_not_declared_again() {
     m.context(1, terms[1]);
     m.context(0, terms[2]);
     let mut desk = Desk::new(&m);
-    let declared = "(push)\n(declare-fun x () Int)\n(assert x)\n";
-    let both = [declared, "(push)\n(assert x)\n"].concat();
+    let declared = "(push 1)\n(declare-fun x () Int)\n(assert x)\n";
+    let both = [declared, "(push 1)\n(assert x)\n"].concat();
     assert_eq!(desk.move_to(2), Ok(both));
     // Equal terms are two nodes all the same.
-    let again = ["(pop)\n(pop)\n", declared].concat();
+    let again = ["(pop 1)\n(pop 1)\n", declared].concat();
     assert_eq!(desk.move_to(3), Ok(again));
-    let goal = "(push)\n(push)\n(assert (not x))\n(check-sat)\n";
+    let goal = "(push 1)\n(push 1)\n(assert (not x))\n(check-sat)\n";
     assert_eq!(desk.ask(3, terms[3]).as_deref(), Ok(goal));
 }
