@@ -36,6 +36,8 @@ impl Reader {
         &self.levels
     }
 
+    /// It knows the two lines that the text has: with another numeral, or with
+    /// none, a push or pop is a line like any other.
     pub fn read(&mut self, text: &[u8]) -> Result<(), Lost> {
         for line in lines(text)? {
             match line.as_slice() {
