@@ -2,6 +2,7 @@
 use Prim.Native.Nat.{ℕ, zero, suc, _+_, _*_, _<_}
 use mathlib.Core.Path.{_≡_}
 use mathlib.Core.List.{[]}
+use mathlib.Core.Bool.{Bool, true, false}
 use Rattle.basics.specs.Write.{MOST}
 use Rattle.book.specs.Book.{Book, functions, patterns, terms, lists, size, field}
 use Rattle.book_test.specs.Promise.{Promise}
@@ -11,6 +12,7 @@ use Rattle.solver_expr.specs.declared.SName.{SName}
 use Rattle.solver_expr.specs.declared.SRow.{SRow}
 use Rattle.solver_expr.specs.declared.SRow.the-variants as row
 use Rattle.solver_expr.specs.declared.SExpr as code
+use Rattle.solver_expr.specs.declared.SExpr.the-variants as value
 use Rattle.sexpr_rows.specs.declared.Part.{Part}
 use Rattle.sexpr_rows.specs.declared.Part.the-variants as part
 use Rattle.sexpr_rows.specs.declared.Turn.{Turn}
@@ -65,10 +67,6 @@ pub record ReadyPlace (b : Book) (p : SRow) (i : ℕ) : Type 0 where
   pub fine : FineRow b p
   pub within : i < rowLength b p
 
-pub record ReadyPart (b : Book) (a : Part) : Type 0 where
-  pub promise : Promise b
-  pub fine : FinePart b a
-
 pub record Listed (b : Book) (start i : ℕ) : Type 0 where
   pub promise : Promise b
   pub here : start + i < size b lists
@@ -78,10 +76,11 @@ pub record Element (b : Book) (p : SRow) (i : ℕ) (a : Part) : Type 0 where
   pub fine : FinePart b a
   pub is : (tag : ℕ) → partOf b tag a ≡ atˢ (rowOf b tag p) i
 
--- e is what the part a means
-pub record LoweredPart (b : Book) (a : Part) (e : code.SExpr) : Type 0 where
-  pub fine : Fine b e
-  pub is : (tag : ℕ) → meaning b tag e ≡ partOf b tag a
+-- the turn of a part, with more parts behind it or none
+unfoldable pub turnFor : code.SExpr → Bool → Turn
+turnFor (value.S n) more = turn.Name n
+turnFor (value.PP q) true = turn.Row q
+turnFor (value.PP q) false = turn.Last q
 
 -- What stands at place i of the row p.
 pub record AtName (b : Book) (p : SRow) (i : ℕ) (n : SName) : Type 0 where

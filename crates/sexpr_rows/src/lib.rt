@@ -4,7 +4,7 @@ ghost use Prim.Native.Nat.{_+_};
 ghost use Rattle.book.specs.Book.{terms, lists, field};
 ghost use Rattle.book.specs.Laid.{Reads};
 ghost use Rattle.solver_expr.specs.Values.{Ready, wordText, quantifierWord};
-ghost use Rattle.sexpr_rows.specs.Rows.{rowLength, ReadyRow, ReadyPlace, ReadyPart, Listed, Element, LoweredPart, Turned};
+ghost use Rattle.sexpr_rows.specs.Rows.{rowLength, ReadyRow, ReadyPlace, Listed, Element, turnFor, Turned};
 use book::field;
 use book::format::*;
 use solver_expr::SExpr;
@@ -267,13 +267,13 @@ fn part_of(book: &[u8], p: SRow, i: usize) -> Part
     }
 }
 
-fn lowered(book: &[u8], a: Part) -> SExpr
-    requires { ⌜ ReadyPart (now book) a ⌝ }
-    ensures { λ r. ⌜ LoweredPart (now (book .entry)) a r ⌝ }
+// The turn of a part: whether more parts stand behind it counts where it is a row.
+fn turn_for(e: SExpr, more: bool) -> Turn
+    ensures { λ r. ⌜ r ≡ turnFor e more ⌝ }
 {
-    match a {
-        Part::Known(e) => e,
-        Part::Term(t) => to_sexpr(book, t),
+    match e {
+        SExpr::S(name) => Turn::Name(name),
+        SExpr::PP(q) => { if more { Turn::Row(q) } else { Turn::Last(q) } }
     }
 }
 
@@ -285,14 +285,9 @@ pub fn turn_of(book: &[u8], p: SRow, i: usize) -> Turn
     if n <= i {
         return Turn::End;
     }
-    match lowered(book, part_of(book, p, i)) {
-        SExpr::S(name) => Turn::Name(name),
-        SExpr::PP(q) => {
-            if i + 1 < n {
-                Turn::Row(q)
-            } else {
-                Turn::Last(q)
-            }
-        }
+    let more = i + 1 < n;
+    match part_of(book, p, i) {
+        Part::Known(e) => turn_for(e, more),
+        Part::Term(t) => turn_for(to_sexpr(book, t), more),
     }
 }

@@ -1,5 +1,6 @@
 use native.Mathlib.Omega.{arith}
-use Rattle.sexpr_rows.proofs.Turns.{place-ready, part-ready, turn-end, turn-name, turn-row, turn-last}
+use mathlib.Core.Path.{refl}
+use Rattle.sexpr_rows.proofs.Turns.{place-ready, known-stands, term-ready, term-stands, turn-end, turned}
 use borrow.Author.Needs.{needs}
 use Rattle.sexpr_rows.proofs.turn_of.Statement.{statement}
 use Rattle.sexpr_rows.proofs.turn_of.Tie as tie
@@ -10,17 +11,14 @@ returns c = turn-end _ _ _ (c .before .row-length .ensures) (c .if1 .taken)
 part-of-requires : tie.Need-part-of-requires
 part-of-requires c κs = place-ready (c .before .before .before .pre) (c .before .row-length .ensures) (c .if1 .left)
 
-lowered-requires : tie.Need-lowered-requires
-lowered-requires c κs = part-ready (c .before .before .before .before .pre) (c .part-of .ensures)
+to-sexpr-requires : tie.Need-to-sexpr-requires
+to-sexpr-requires c κs = term-ready (c .before .before .before .part-of .ensures) (c .before .before .before .before .before .before .before .pre) (c .before .t .given .1)
 
 returns-2 : tie.Need-returns-2
-returns-2 c = turn-name _ _ _ (c .before .before .before .before .before .before .row-length .ensures) (c .before .before .before .before .before .if1 .left) (c .before .before .before .before .part-of .ensures) (c .before .before .before .lowered .ensures) (omega (arith, c .before .before .before .before .before .before .row-length .ok)) (c .before .name .given .1)
+returns-2 c = turned _ _ _ (c .before .before .before .before .before .before .row-length .ensures) (c .before .before .before .before .before .if1 .left) (omega (arith, c .before .before .before .before .before .before .row-length .ok)) refl (known-stands (c .before .before .before .before .part-of .ensures) (c .before .before .e .given .1)) (c .turn-for .ensures)
 
 returns-3 : tie.Need-returns-3
-returns-3 c = turn-row _ _ _ (c .before .before .before .before .before .before .before .row-length .ensures) (c .before .before .before .before .before .before .if1 .left) (c .before .before .before .before .before .part-of .ensures) (c .before .before .before .before .lowered .ensures) (omega (arith, c .before .before .before .before .before .before .before .row-length .ok)) (c .before .before .q .given .1)
-
-returns-4 : tie.Need-returns-4
-returns-4 c = turn-last _ _ _ (c .before .before .before .before .before .before .before .row-length .ensures) (c .before .before .before .before .before .before .if1 .left) (c .before .before .before .before .before .part-of .ensures) (c .before .before .before .before .lowered .ensures) (c .before .before .q .given .1) (c .if2 .left)
+returns-3 c = turned _ _ _ (c .before .before .before .before .before .before .before .row-length .ensures) (c .before .before .before .before .before .before .if1 .left) (omega (arith, c .before .before .before .before .before .before .before .row-length .ok)) refl (term-stands (c .before .before .before .before .before .part-of .ensures) (c .before .before .before .t .given .1) (c .before .to-sexpr .ensures)) (c .turn-for2 .ensures)
 
 pub turn-of-spec : {M : Type 1} → statement M
 turn-of-spec =
@@ -28,11 +26,12 @@ turn-of-spec =
     (tie.spec
     (λ c κs. search needs)
     returns
+    (λ c. search needs)
     part-of-requires
-    lowered-requires
     (λ c. search needs)
+    (λ c κs. search needs)
     (λ c. search needs)
-    (λ c. search needs)
+    to-sexpr-requires
+    (λ c κs. search needs)
     returns-2
-    returns-3
-    returns-4)
+    returns-3)
