@@ -61,6 +61,7 @@ mod sessions;
 mod shapes;
 mod strict;
 mod strict_lists;
+mod strict_prints;
 mod tally;
 mod timing;
 

@@ -206,7 +206,10 @@ fn random_group(tally: &mut Tally) {
         seen.met.all_of(&REFUSED)?;
         let said = seen.met.all_of(&PASS_OR_FAIL)?;
         let moved = seen.moved.only(&PASS_OR_FAIL)?;
-        Ok(format!("{said}, by {} moves too: {moved}", moves.made))
+        Ok(format!(
+            "{said}, by {} moves too, {} commands read strictly: {moved}",
+            moves.made, moves.read
+        ))
     });
 }
 

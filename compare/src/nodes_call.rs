@@ -5,6 +5,7 @@
 use crate::buffers::Fenced;
 use crate::nodes_library::{self as library, NodesTested, FAILS, PASS};
 use crate::session_library::{self, Buffers};
+use crate::strict::{is_readable, read_whole};
 use crate::tally::Met;
 use leskofar_reference::book::{number_at, NUMBER_SIZE};
 use leskofar_reference::book_test::SCRATCH_SIZE;
@@ -120,11 +121,15 @@ impl NodesCall<'_> {
     }
 
     /// Of an accepted call: the library's moves, each on a fresh image, are
-    /// accepted before the position and refused 9 there.
+    /// accepted before the position and refused 9 there. Their text is read
+    /// strictly where the names are sane.
     pub fn compare_with_moves(self, tested: NodesTested, moves: &mut Moves) -> Result<(), String> {
         let failing = (tested.result == FAILS).then_some(tested.position as usize);
+        let readable = is_readable(self.book);
         for (at, node) in numbers(self.nodes).into_iter().enumerate() {
-            let refusal = moves.refusal(self.book, node);
+            let (refusal, text) = moves.make(self.book, node);
+            let commands = if readable { read_whole(text)? } else { 0 };
+            moves.read += commands;
             let fails = failing == Some(at);
             if refusal != if fails { MISSING_AXIOM } else { 0 } {
                 return Err(format!("{tested:?}, move {at} {refusal}, of {self:?}"));
@@ -145,6 +150,8 @@ pub struct Moves {
     image: [u8; IMAGE_SIZE],
     text: Vec<u8>,
     pub made: usize,
+    /// The commands that the strict reader read.
+    pub read: usize,
 }
 
 impl Moves {
@@ -156,11 +163,12 @@ impl Moves {
             image: [0; IMAGE_SIZE],
             text: vec![0; Moves::ROOM],
             made: 0,
+            read: 0,
         }
     }
 
-    /// Of a fresh session's move to a node.
-    fn refusal(&mut self, book: &[u8], node: u32) -> u32 {
+    /// The refusal and the text of a fresh session's move to a node.
+    fn make(&mut self, book: &[u8], node: u32) -> (u32, &[u8]) {
         self.made += 1;
         session_library::fresh(&mut self.image);
         let mut buffers = Buffers {
@@ -169,6 +177,7 @@ impl Moves {
             text: &mut self.text,
             reason: &mut [],
         };
-        session_library::move_to(book, &mut buffers, node).refusal
+        let answer = session_library::move_to(book, &mut buffers, node);
+        (answer.refusal, &self.text[..answer.text as usize])
     }
 }

@@ -86,7 +86,10 @@ fn tree_groups(tally: &mut Tally) {
             }
             compare_tree(&parents, places, &mut moves, &mut met)?;
             let said = met.only(&PASS_OR_FAIL)?;
-            Ok(format!("{said}, {} moves", moves.made))
+            Ok(format!(
+                "{said}, {} moves, {} commands read strictly",
+                moves.made, moves.read
+            ))
         });
     }
 }

@@ -2,6 +2,7 @@
 
 use crate::library;
 use crate::printed::{compare, left, rooms_around, told, Left};
+use crate::strict_prints::Prints;
 use crate::tally::Met;
 use leskofar_reference::book_test::{check, SCRATCH_SIZE};
 use leskofar_reference::lower::to_sexpr;
@@ -61,18 +62,30 @@ impl Print<'_> {
         sink.length()
     }
 
-    /// With buffers exactly long enough, one byte less, empty and longer.
-    pub fn compare_around(self, length: u64, longer: usize, met: &mut Met) -> Result<(), String> {
+    /// With buffers exactly long enough, one byte less, empty and longer. A
+    /// text that fills its buffer is read strictly.
+    pub fn compare_around(
+        self,
+        length: u64,
+        longer: usize,
+        met: &mut Met,
+        prints: &mut Prints,
+    ) -> Result<(), String> {
         for room in rooms_around(length, longer) {
-            self.compare(room, SCRATCH_SIZE, met)?;
+            let left = self.compare(room, SCRATCH_SIZE, met)?;
+            if room > 0 && left.text().len() == room {
+                prints.read(left.text())?;
+            }
         }
         Ok(())
     }
 }
 
-/// Every term of a book, in every layout.
-pub fn compare_terms(book: &[u8], met: &mut Met) -> Result<(), String> {
+/// Every term of a book, in every layout. Gives how many prints were read
+/// strictly.
+pub fn compare_terms(book: &[u8], met: &mut Met) -> Result<usize, String> {
     let program = check(book).map_err(|refusal| format!("refused {refusal}"))?;
+    let mut prints = Prints::new(book, &program)?;
     for term in 0..program.terms.len() as u32 {
         for tag in TAGS {
             for indent in INDENTS {
@@ -85,18 +98,19 @@ pub fn compare_terms(book: &[u8], met: &mut Met) -> Result<(), String> {
                         indent,
                     };
                     let length = call.length(&program);
-                    call.compare_around(length, 0, met)?;
+                    call.compare_around(length, 0, met, &mut prints)?;
                 }
             }
         }
     }
-    Ok(())
+    Ok(prints.read)
 }
 
-/// The last term of a book, in every layout.
-pub fn compare_last(m: &Maker, met: &mut Met) -> Result<(), String> {
+/// The last term of a book, in every layout; gives the same.
+pub fn compare_last(m: &Maker, met: &mut Met) -> Result<usize, String> {
     let book = &m.book();
     let program = check(book).map_err(|refusal| format!("refused {refusal}"))?;
+    let mut prints = Prints::new(book, &program)?;
     for indent in INDENTS {
         for newlines in [ONE_LINE, FLAGS[0]] {
             let call = Print {
@@ -106,8 +120,8 @@ pub fn compare_last(m: &Maker, met: &mut Met) -> Result<(), String> {
                 newlines,
                 indent,
             };
-            call.compare_around(call.length(&program), 0, met)?;
+            call.compare_around(call.length(&program), 0, met, &mut prints)?;
         }
     }
-    Ok(())
+    Ok(prints.read)
 }

@@ -8,6 +8,7 @@ use crate::print_call::{compare_last, compare_terms, Print, FLAGS, INDENTS, ONE_
 use crate::printed::{compare, left, told, LONGER, LONGEST, ON_A_BOOK, SHORT_ROOMS};
 use crate::random_inputs::{any_book, any_number, any_term, good_book, scratch_length};
 use crate::shapes::{visit, SHAPES};
+use crate::strict_prints::Prints;
 use crate::tally::{Met, Tally};
 use leskofar_reference::book_test::{check, MOST_DEPTH, SCRATCH_SIZE};
 use leskofar_reference::maker::{sample, small};
@@ -46,13 +47,22 @@ fn compare_trace(
     .map(|_| ())
 }
 
+/// Fails if the strict reader read nothing.
+fn read_some(read: usize, said: String) -> Result<String, String> {
+    if read == 0 {
+        return Err("no print was read strictly".into());
+    }
+    Ok(format!("{said}, {read} read strictly"))
+}
+
 fn print_groups(tally: &mut Tally) {
     tally.group("print, terms at the borders", || {
         let mut met = Met::default();
+        let mut read = 0;
         for m in [borders(), full(), sample().maker, small().maker] {
-            compare_terms(&m.book(), &mut met)?;
+            read += compare_terms(&m.book(), &mut met)?;
         }
-        met.all_of(&[0, 10])
+        read_some(read, met.all_of(&[0, 10])?)
     });
     tally.group("print, every buffer up to the text's length", || {
         let mut met = Met::default();
@@ -76,21 +86,24 @@ fn print_groups(tally: &mut Tally) {
     });
     tally.group("print, as deep as a book can nest", || {
         let mut met = Met::default();
+        let mut read = 0;
         for (name, m) in nests() {
-            compare_last(&m, &mut met).map_err(|difference| format!("{name}: {difference}"))?;
+            read +=
+                compare_last(&m, &mut met).map_err(|difference| format!("{name}: {difference}"))?;
         }
-        met.all_of(&[0, 10])
+        read_some(read, met.all_of(&[0, 10])?)
     });
     let random_terms = tally.share(RANDOM_TERMS);
     tally.group("print, random terms", || {
         let mut met = Met::default();
         let mut shapes = [Met::default(), Met::default()];
         let mut random = Random::new(SEED);
-        let mut printed = 0;
+        let [mut printed, mut read] = [0; 2];
         let mut bytes = 0;
         while printed < random_terms {
             let book = good_book(&mut random);
             let program = check(&book).map_err(|refusal| format!("refused {refusal}"))?;
+            let mut prints = Prints::new(&book, &program)?;
             for _ in 0..TERMS_OF_A_BOOK.min(program.terms.len()) {
                 let term = any_term(&mut random, program.terms.len());
                 let [tag, indent] = [random.pick(&TAGS), random.pick(&INDENTS)];
@@ -104,7 +117,7 @@ fn print_groups(tally: &mut Tally) {
                     };
                     let longer = random.below(LONGER);
                     let length = call.length(&program);
-                    call.compare_around(length, longer, &mut met)?;
+                    call.compare_around(length, longer, &mut met, &mut prints)?;
                     if length <= LONGEST {
                         bytes += length;
                         let layout = &mut shapes[usize::from(newlines != 0)];
@@ -113,12 +126,15 @@ fn print_groups(tally: &mut Tally) {
                 }
                 printed += 1;
             }
+            read += prints.read;
         }
         for layout in shapes {
             layout.all_of(&SHAPES)?;
         }
         let said = met.all_of(&[0, 10])?;
-        Ok(format!("{printed} terms, {bytes} bytes of text, {said}"))
+        Ok(format!(
+            "{printed} terms, {bytes} bytes of text, {read} read strictly, {said}"
+        ))
     });
     let refused_calls = tally.share(REFUSED_CALLS);
     tally.group("print, refused calls", || {

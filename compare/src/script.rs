@@ -3,15 +3,16 @@
 
 use crate::made_sessions::own_axiom;
 use crate::made_terms::nests;
+use crate::sane_books::sane_book;
+use crate::strict::{is_readable, read_whole};
 use crate::tally::{Met, Tally};
-use leskofar_reference::book::INT;
+use leskofar_reference::book::{number_at, INT, NUMBER_SIZE};
 use leskofar_reference::damage::damaged;
 use leskofar_reference::maker::{sample, Maker};
 use leskofar_reference::random::{Random, AT_TIMES, HARDLY_EVER, OFTEN, RARELY};
 use leskofar_reference::random_books::{random_book, Counts};
 use leskofar_reference::script;
 use leskofar_reference::script::{ASK, CALL_SIZE, INPUT_MOST, MOVE, TEXT_SIZE};
-use leskofar_reference::smtlib::Reader;
 use std::io::Write;
 use std::process::{Command, Stdio};
 
@@ -21,6 +22,8 @@ const STACK_KIB: usize = 2_048;
 const STOPPED: &str = "; stopped";
 const REFUSED: &str = "; refused ";
 const RANDOM_INPUTS: usize = 10_000;
+/// Of books with sane names.
+const SANE_INPUTS: usize = 1_000;
 const SEED: u64 = 0x7363_7269;
 /// The usual sizes of random books, and the most calls on one.
 const SIZES: [usize; 5] = [1, 2, 4, 8, 24];
@@ -44,6 +47,12 @@ pub fn input(book: &[u8], calls: &[[u32; 3]]) -> Vec<u8> {
     input.extend_from_slice(book);
     input.extend(calls.iter().flatten().flat_map(|n| n.to_le_bytes()));
     input
+}
+
+/// The book of an input that is not cut in it.
+fn book_of(input: &[u8]) -> Option<&[u8]> {
+    let (length, rest) = input.split_at_checked(NUMBER_SIZE)?;
+    rest.get(..number_at(length, 0) as usize)
 }
 
 fn program(input: &[u8]) -> Result<Vec<u8>, String> {
@@ -72,6 +81,9 @@ fn compare(input: &[u8], met: &mut Met) -> Result<Vec<u8>, String> {
     if written != expected {
         let at = written.iter().zip(&expected).take_while(|(a, b)| a == b);
         return Err(format!("another text at byte {} of {input:?}", at.count()));
+    }
+    if book_of(input).is_some_and(is_readable) {
+        read_whole(&written)?;
     }
     let text = String::from_utf8_lossy(&expected);
     let mut quiet = true;
@@ -146,9 +158,7 @@ pub fn run(tally: &mut Tally) {
                 return Err("crates/script/stdout is not the reference's".into());
             }
             // What the program says for itself is a comment.
-            Reader::default()
-                .read(&stdout)
-                .map_err(|refused| refused.to_string())?;
+            read_whole(&stdout)?;
             met.all_of(&[7, STOP])
         },
     );
@@ -209,6 +219,22 @@ pub fn run(tally: &mut Tally) {
             compare(&input(&maker.book(), &[[ASK, 0, goal]]), &mut met)?;
         }
         met.only(&[0])
+    });
+    let sane_inputs = tally.share(SANE_INPUTS);
+    tally.group("script, random books with sane names", || {
+        let mut met = Met::default();
+        let mut random = Random::new(SEED);
+        let mut commands = 0;
+        for _ in 0..sane_inputs {
+            let maker = sane_book(&mut random);
+            let calls = random_calls(&mut random, &maker);
+            commands += read_whole(&compare(&input(&maker.book(), &calls), &mut met)?)?;
+        }
+        if commands == 0 {
+            return Err("no command was read strictly".into());
+        }
+        let said = met.all_of(&[0, 7, STOP])?;
+        Ok(format!("{said}, {commands} commands read strictly"))
     });
     let random_inputs = tally.share(RANDOM_INPUTS);
     tally.group("script, random books and calls", || {

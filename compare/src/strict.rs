@@ -4,10 +4,23 @@
 use crate::print_call::{Print, FLAGS, ONE_LINE};
 use crate::sane::is_sane;
 use crate::tally::Met;
-use leskofar_reference::book_test::SCRATCH_SIZE;
+use leskofar_reference::book_test::{check, SCRATCH_SIZE};
 use leskofar_reference::commands::LINE_END;
 use leskofar_reference::program::Program;
 use leskofar_reference::smtlib::Reader;
+
+/// Whether the text of a book is to be read: it is good, and has sane names.
+pub fn is_readable(book: &[u8]) -> bool {
+    check(book).is_ok_and(|program| is_sane(book, &program))
+}
+
+/// Reads all text of a session, and gives how many commands it has. What is no
+/// command is a comment.
+pub fn read_whole(text: &[u8]) -> Result<usize, String> {
+    Reader::default()
+        .read(text)
+        .map_err(|refused| format!("strictly, {refused}, in {}", text.escape_ascii()))
+}
 
 /// Flag and indent of each print.
 const LAYOUTS: [(u32, u64); 3] = [(ONE_LINE, 0), (FLAGS[0], 0), (FLAGS[0], 7)];
