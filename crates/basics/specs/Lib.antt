@@ -4,3 +4,4 @@ pub mod Basics
 pub mod Outcome
 pub mod Buffer
 pub mod Write
+pub mod Bytes

@@ -1,6 +1,7 @@
 // Basics.dfy: text that is written into a buffer, and decimal numbers.
 mod decimal;
 mod place;
+mod word;
 mod write;
 
 pub use decimal::SIGN;
@@ -8,6 +9,7 @@ pub use decimal::put_i64;
 pub use decimal::put_int;
 pub use decimal::put_u64;
 pub use place::put_at;
+pub use word::put_word;
 pub use write::MOST;
 pub use write::clip;
 pub use write::put;

@@ -33,7 +33,8 @@ use Rattle.literals.specs.Search.{namedAt, firstNamed, literalCount, goneThroug
 use Rattle.solvers.specs.Session.{textOf, freshSession, resume, moved, asked, move, ask, closed, isUnsat, replied, giveReply, giveModel}
 use Rattle.solvers.specs.Calls.{owes, goalFits, isSession, reasonOf, fitting, moveCall, askCall, replyCall, modelCall, hostOf, call}
 use Rattle.solvers.specs.Left.{answerValue, valuesBy, values, reason, sessionAfter, left, called}
-use Rattle.solvers.specs.Image.{bytes4, owedNumber, owedOf, writeImage, noSession, isImage, readImage, imageAfter, calledOnImage}
+use Rattle.basics.specs.Bytes.{bytes4, row, rows}
+use Rattle.solvers.specs.Image.{owedNumber, owedOf, writeImage, noSession, isImage, readImage, imageAfter, calledOnImage}
 use Rattle.solvers.specs.Rule.{standing, settle, nodeCommands, levelsOf, goalState, goalCommands, denialCommands, goalLevels, levelsFor, entering, moveCommands, questionCommands, present, nextReply, next, nodeLevels, mustLive, sessionAt, replyCommands, said, after, runFrom, start, run, straightTo, straight}
 use Rattle.solvers.specs.ByBook.{moveByBook, askByBook, callByBook}
 use Rattle.number_lists.specs.Numbers.{numbers}
