@@ -4,7 +4,8 @@ use lib.ListN.{length}
 use Rattle.basics.specs.Text.{same}
 use Rattle.records.proofs.Readers.{reads-name}
 use Rattle.basics.proofs.Texts.{same-yes, same-length}
-use Rattle.literal_names.proofs.Naming.{reads-record, name-length, one-place}
+use Rattle.book_test.proofs.Names.{name-length}
+use Rattle.literal_names.proofs.Naming.{reads-record, one-place}
 use borrow.Author.Needs.{needs}
 use Rattle.literal_names.proofs.names.same_name.Statement.{statement}
 use Rattle.literal_names.proofs.names.same_name.Tie as tie
