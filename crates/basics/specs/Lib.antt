@@ -1,4 +1,5 @@
 pub mod Text
+pub mod Letters
 pub mod Lists
 pub mod Basics
 pub mod Outcome

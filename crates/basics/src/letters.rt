@@ -2,9 +2,8 @@
 ghost use mathlib.Core.Path.{_≡_};
 ghost use Prim.Native.Nat.{_+_, _<_, _≤_};
 ghost use lib.ListN.{length};
 ghost use Rattle.basics.specs.Text.{same};
-ghost use Rattle.book.specs.Book.{word};
-ghost use Rattle.literal_names.specs.Letters.{Four, Eight};
+ghost use Rattle.basics.specs.Letters.{Four, fourAt, Eight};
 
 // Bytes of a step, and of half a step.
 const STEP: usize = 8;
@@ -26,11 +25,10 @@ fn wide(x: u8) -> usize
     x as usize
 }
 
-// The four bytes at i as one number. It is read as book::word reads it; that each is below 256 has to be told here, so that equal
-// numbers are equal bytes.
+// The four bytes at i as one number. That each is below 256 has to be told, so that equal numbers are equal bytes.
 fn four(a: &[u8], i: usize) -> usize
     requires { ⌜ i + 4 ≤ length (now a) ⌝ }
-    ensures { λ r. ⌜ (r ≡ word (now (a .entry)) i) × Four (now (a .entry)) i ⌝ }
+    ensures { λ r. ⌜ (r ≡ fourAt (now (a .entry)) i) × Four (now (a .entry)) i ⌝ }
 {
     wide(a[i]) + SECOND * wide(a[i + 1]) + THIRD * wide(a[i + 2]) + FOURTH * wide(a[i + 3])
 }

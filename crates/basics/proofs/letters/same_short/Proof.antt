@@ -3,10 +3,10 @@ use lib.ListN.{length, getD}
 use mathlib.Core.Path.{_≡_}
 use borrow.Author.Count.{below-more}
 use native.Mathlib.Omega.{arith}
-use Rattle.literal_names.proofs.Equal.{same-byte, same-bytes}
+use Rattle.basics.proofs.Texts.{same-byte, same-bytes}
 use borrow.Author.Needs.{needs}
-use Rattle.literal_names.proofs.letters.same_short.Statement.{statement}
-use Rattle.literal_names.proofs.letters.same_short.Tie as tie
+use Rattle.basics.proofs.letters.same_short.Statement.{statement}
+use Rattle.basics.proofs.letters.same_short.Tie as tie
 
 abbrev Inv-loop : tie.InvT-loop
 Inv-loop a b i₀ i = (i ≤ length a) × ((k : ℕ) → k < i → getD a k 0 ≡ getD b k 0)

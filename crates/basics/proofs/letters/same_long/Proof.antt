@@ -2,10 +2,10 @@ use Prim.Native.Nat.{_+_, _-_, _<_}
 use mathlib.Core.Path.{_≡_, refl}
 use lib.ListN.{length}
 use native.Mathlib.Omega.{arith}
-use Rattle.literal_names.proofs.Stepping.{Alike, joined, eight-alike, eight-differs, all-alike}
+use Rattle.basics.proofs.Stepping.{Alike, joined, eight-alike, eight-differs, all-alike}
 use borrow.Author.Needs.{needs}
-use Rattle.literal_names.proofs.letters.same_long.Statement.{statement}
-use Rattle.literal_names.proofs.letters.same_long.Tie as tie
+use Rattle.basics.proofs.letters.same_long.Statement.{statement}
+use Rattle.basics.proofs.letters.same_long.Tie as tie
 
 abbrev Inv-loop : tie.InvT-loop
 Inv-loop a b last i₀ i = (last + 8 ≡ length a) × (length a ≡ length b) × (i < last + 8) × Alike a b 0 i × Alike a b last (last + 8)

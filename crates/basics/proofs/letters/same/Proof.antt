@@ -1,7 +1,7 @@
-use Rattle.literal_names.proofs.Equal.{same-length}
+use Rattle.basics.proofs.Texts.{same-length}
 use borrow.Author.Needs.{needs}
-use Rattle.literal_names.proofs.letters.same.Statement.{statement}
-use Rattle.literal_names.proofs.letters.same.Tie as tie
+use Rattle.basics.proofs.letters.same.Statement.{statement}
+use Rattle.basics.proofs.letters.same.Tie as tie
 
 returns : tie.Need-returns
 returns c = same-length _ _ (c .if1 .taken)

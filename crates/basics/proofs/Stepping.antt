@@ -5,17 +5,16 @@ use native.Mathlib.Decide.{decLt}
 use mathlib.Core.Path.{_≡_, sym, ap, _∙_}
 use mathlib.Core.Bool.{true, false}
 use lib.ListN.{length, getD}
 use Rattle.basics.specs.Text.{Text, same}
-use Rattle.book.specs.Book.{word}
-use Rattle.literal_names.specs.Letters.{Four, eightAt, Eight}
-use Rattle.literal_names.proofs.Equal.{same-no, same-bytes}
+use Rattle.basics.specs.Letters.{Four, fourAt, eightAt, Eight}
+use Rattle.basics.proofs.Texts.{same-no, same-bytes}
 
 -- the letters from i up to n are the same
 abbrev pub Alike : Text → Text → ℕ → ℕ → Type 0
 Alike a b i n = (k : ℕ) → i ≤ k → k < n → getD a k 0 ≡ getD b k 0
 
-word-small : (a : Text) (i : ℕ) → Four a i → word a i < 4294967296
-word-small a i f = omega (arith, f .first, f .second, f .third, f .fourth)
+four-small : (a : Text) (i : ℕ) → Four a i → fourAt a i < 4294967296
+four-small a i f = omega (arith, f .first, f .second, f .third, f .fourth)
 
 -- a byte before a number
 byte-first : (x y p q : ℕ) → x < 256 → y < 256 → x + 256 * p ≡ y + 256 * q → (x ≡ y) × (p ≡ q)
@@ -39,7 +38,7 @@ module _ (a b : Text) where
       at (yes y) = f k l y
       at (no y) = g k (omega arith) m
 
-  four-alike : (i n : ℕ) → n ≡ i + 4 → Four a i → Four b i → word a i ≡ word b i → Alike a b i n
+  four-alike : (i n : ℕ) → n ≡ i + 4 → Four a i → Four b i → fourAt a i ≡ fourAt b i → Alike a b i n
   four-alike i n h f g e =
       let p = getD a (i + 1) 0 + 256 * getD a (i + 2) 0 + 65536 * getD a (i + 3) 0 in
       let q = getD b (i + 1) 0 + 256 * getD b (i + 2) 0 + 65536 * getD b (i + 3) 0 in
@@ -52,8 +51,8 @@ module _ (a b : Text) where
   pub eight-alike : (i n : ℕ) {r t : ℕ} → n ≡ i + 8 → Eight a i r → Eight b i t → r ≡ t → Alike a b i n
   eight-alike i n h f g e =
       let s : eightAt a i ≡ eightAt b i = sym (f .is) ∙ e ∙ g .is in
-      let l : word a i ≡ word b i = omega (arith, word-small a i (f .low), word-small b i (g .low), s) in
-      let u : word a (i + 4) ≡ word b (i + 4) = omega (arith, l, s) in
+      let l : fourAt a i ≡ fourAt b i = omega (arith, four-small a i (f .low), four-small b i (g .low), s) in
+      let u : fourAt a (i + 4) ≡ fourAt b (i + 4) = omega (arith, l, s) in
       joined i (i + 4) n (four-alike i (i + 4) (omega arith) (f .low) (g .low) l) (four-alike (i + 4) n (omega arith) (f .high) (g .high) u)
 
   -- two steps with different numbers
