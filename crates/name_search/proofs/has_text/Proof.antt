@@ -1,4 +1,5 @@
-use mathlib.Core.Path.{sym, ap, _∙_}
+use native.Mathlib.Omega.{arith}
+use mathlib.Core.Path.{ap, _∙_}
 use Rattle.basics.specs.Text.{Text, same}
 use Rattle.basics.proofs.Texts.{same-length}
 use Rattle.book_test.proofs.Names.{name-length}
@@ -8,7 +9,7 @@ use Rattle.name_search.proofs.has_text.Statement.{statement}
 use Rattle.name_search.proofs.has_text.Tie as tie
 
 returns : tie.Need-returns
-returns c = same-length _ _ (λ e. c .if1 .taken (c .before .field .ensures .is ∙ sym (name-length _ (c .before .before .before .before .pre .0) _ (c .before .before .before .before .pre .1)) ∙ e))
+returns c = same-length _ _ (λ e. c .if1 .taken (omega (arith, c .before .field .ensures .is, name-length _ (c .before .before .before .before .pre .0) _ (c .before .before .before .before .pre .1), e)))
 
 name-requires : tie.Need-name-requires
 name-requires c κs = reads-name (c .before .before .before .before .pre .0) _ (c .before .before .before .before .pre .1)
