@@ -54,12 +54,14 @@ termLists zero first second = []
 termLists (suc zero) first second = wholeEntries first
 termLists (suc (suc n)) first second = wholeEntries first ++ wholeEntries second
 
--- a range's fields are handed over as 0, and a list that the kind has no range for is empty
+-- a list that the kind has no range for is empty; another is whole numbers, and its range's fields are handed over as 0
+unfoldable pub rangeRight : (ranged : Bool) → (start count : ℕ) → List ℕ → Bool
+rangeRight false start count bytes = eqb (length bytes) 0
+rangeRight true start count bytes = eqb start 0 && eqb count 0 && isWhole bytes
+
 unfoldable pub termRight : (ranges : ℕ) → NewTerm → (first second : List ℕ) → Bool
-termRight zero t first second = eqb (length first) 0 && eqb (length second) 0
-termRight (suc zero) t first second = eqb (t .field2) 0 && eqb (t .field3) 0 && isWhole first && eqb (length second) 0
-termRight (suc (suc n)) t first second =
-    eqb (t .field2) 0 && eqb (t .field3) 0 && isWhole first && eqb (t .field4) 0 && eqb (t .field5) 0 && isWhole second
+termRight ranges t first second =
+    rangeRight (leb 1 ranges) (t .field2) (t .field3) first && rangeRight (leb 2 ranges) (t .field4) (t .field5) second
 
 unfoldable pub handedRight : Growth → Bool
 handedRight (appendName t) = true
