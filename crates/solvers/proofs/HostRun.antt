@@ -8,10 +8,10 @@ use mathlib.Core.Bool.{Bool, true, false, not, _||_}
 use lib.Dec.{ltb, leb}
 use lib.ListN.{length, take, drop, length-replicate}
 use borrow.Author.Tests.{ltb-false}
-use Rattle.basics.specs.Text.{Text}
 use Rattle.basics.specs.Outcome.{Outcome, refused, accepted, refuse, _>>_, mapOutcome}
 use Rattle.basics.specs.Buffer.{overlay, bufferAfter}
 use Rattle.basics.proofs.Bool.{or-left}
+use Rattle.basics.proofs.Laws.{take-overlay}
 use Rattle.book.specs.Book.{Book, terms, contexts, size}
 use Rattle.book.specs.Decode.{program}
 use Rattle.book_test.specs.BookTest.{bookTest}
@@ -59,12 +59,6 @@ call-fits b s (moveTo h n) = behind h _ _ (behind h _ _ (behind h _ _ (behind h 
 call-fits b s (askFor h n t) = behind h _ _ (behind h _ _ (behind h _ _ (behind h _ _ (behind h _ _ (fitting-fits h _)))))
 call-fits b s (replyWith h ok r) = behind h _ _ (behind h _ _ (behind h _ _ (fitting-fits h _)))
 call-fits b s (modelWith h r m) = behind h _ _ (behind h _ _ (behind h _ _ (behind h _ _ (fitting-fits h _))))
-
-pub take-overlay : (t : Text) (buffer : List ℕ) → length t ≤ length buffer → take (length t) (overlay t buffer) ≡ t
-unfolding overlay
-take-overlay [] buffer h = refl
-take-overlay (x ∷ t) [] h = absurd (omega arith)
-take-overlay (x ∷ t) (y ∷ buffer) h = ap {B = Text} (λ (r : Text). x ∷ r) (take-overlay t buffer (omega arith))
 
 pub by-length : (r : Option ProofResult) (n : ℕ) → textLength (valuesBy r n) ≡ n
 unfolding textLength valuesBy
