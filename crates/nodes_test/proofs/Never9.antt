@@ -23,7 +23,7 @@ use Rattle.solvers.specs.declared.Session.{Session}
 use Rattle.solvers.specs.Calls.{owes, isSession, Host, fitting, moveTo, call}
 use Rattle.solvers.specs.Left.{values, left, called}
 use Rattle.solvers.specs.Image.{readImage, calledOnImage}
-use Rattle.solvers.specs.Rule.{standing, run}
+use Rattle.solvers.specs.Rule.{standing}
 use Rattle.solvers.specs.ByBook.{callByBook, moveByBook}
 use Rattle.solvers.proofs.ByBook.{by-book}
 use Rattle.nodes_test.specs.NodesTest.{couldMove, firstFailing, allInside, nodesMost, nodesIn, nodesTested}
@@ -80,7 +80,6 @@ never-9 scratch b ns e =
     let could : (n : ℕ) → member n ns ≡ true → couldMove (program b) n ≡ true = λ n h.
     let r = place n ns h in rw (r .2) at (first (program b) ns .allPass (t .none′) (r .0) (r .1)) in
     record {
-      after = λ cs h n m. never b (t .tested) n (could n m) (run b cs .now) h;
       session = λ s h n m. never b (t .tested) n (could n m) s h;
       image = λ image h n m z. never b (t .tested) n (could n m) (readImage image) h (refused-alike values (call b (readImage image) (moveTo h n)) z);
     }

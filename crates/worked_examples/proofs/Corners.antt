@@ -19,7 +19,7 @@ use Rattle.solvers.specs.declared.Session.{Session}
 use Rattle.solvers.specs.Session.{session, freshSession}
 use Rattle.solvers.specs.Calls.{Call, moveTo, askFor, replyWith}
 use Rattle.solvers.specs.Left.{called}
-use Rattle.solvers.specs.Rule.{run}
+use Rattle.stack_rule.specs.Events.{run}
 use Rattle.worked_examples.proofs.Everything.{everything}
 use Rattle.worked_examples.proofs.Books.{books, small, none, shapes, literals, explained, cycle, declaring}
 use Rattle.worked_examples.proofs.Hosts.{hosts, dirty, clean, blank, host, shows, hides, writes, proves, refuses, levels, Seen, test, print, call, texts}

@@ -34,11 +34,13 @@ use Rattle.solvers.specs.Session.{textOf, freshSession, resume, moved, asked, m
 use Rattle.solvers.specs.Calls.{owes, goalFits, isSession, reasonOf, fitting, moveCall, askCall, replyCall, modelCall, hostOf, call}
 use Rattle.solvers.specs.Left.{answerValue, valuesBy, values, reason, sessionAfter, left, called}
 use Rattle.solvers.specs.Image.{bytes4, owedNumber, owedOf, writeImage, noSession, isImage, readImage, imageAfter, calledOnImage}
-use Rattle.solvers.specs.Rule.{standing, settle, nodeCommands, levelsOf, goalState, goalCommands, denialCommands, goalLevels, levelsFor, entering, moveCommands, questionCommands, present, nextReply, next, nodeLevels, mustLive, sessionAt, replyCommands, said, after, runFrom, start, run, straightTo, straight}
+use Rattle.solvers.specs.Rule.{standing, settle, nodeCommands, levelsOf, goalState, goalCommands, denialCommands, goalLevels, levelsFor, entering, moveCommands, questionCommands, present, nextReply, next, nodeLevels, mustLive, sessionAt, replyCommands, said}
 use Rattle.solvers.specs.ByBook.{moveByBook, askByBook, callByBook}
 use Rattle.number_lists.specs.Numbers.{numbers}
 use Rattle.nodes_test.specs.NodesTest.{couldMove, firstFailing, allInside, nodesIn, nodesTested, nodesTestedValue, nodesTestCall}
-use Rattle.solvers.specs.Bodies.{onReply, doCall, doIfAccepted, doFrom, doAll}
+use Rattle.solvers.specs.Bodies.{onReply, doCall}
+use Rattle.stack_rule.specs.Events.{after, runFrom, start, run, straightTo, straight}
+use Rattle.stack_rule.specs.Bodies.{doIfAccepted, doFrom, doAll}
 
 -- the book, and its test
 unfoldable pub testing : Unit {0}

@@ -13,7 +13,7 @@ use Rattle.solvers.specs.declared.Session.{Session}
 use Rattle.solvers.specs.Session.{session, freshSession}
 use Rattle.solvers.specs.Calls.{Call, moveTo, askFor, replyWith}
 use Rattle.solvers.specs.Left.{called}
-use Rattle.solvers.specs.Rule.{run}
+use Rattle.stack_rule.specs.Events.{run}
 use Rattle.worked_examples.proofs.Everything.{everything}
 use Rattle.worked_examples.proofs.Books.{books, sample, small}
 use Rattle.worked_examples.proofs.Hosts.{hosts, dirty, blank, host, shows, writes, proves, levels, Seen, print, call, texts}

@@ -16,8 +16,9 @@ use Rattle.solvers.specs.declared.Session.{Session}
 use Rattle.solvers.specs.Session.{session, freshSession}
 use Rattle.solvers.specs.Calls.{Call, moveTo, askFor, replyWith, modelWith}
 use Rattle.solvers.specs.Left.{Values, written, unproved, called}
-use Rattle.solvers.specs.Rule.{Trace, run, present, mustLive, straight}
-use Rattle.solvers.specs.Bodies.{doAll}
+use Rattle.solvers.specs.Rule.{present, mustLive}
+use Rattle.stack_rule.specs.Events.{Trace, run, straight}
+use Rattle.stack_rule.specs.Bodies.{doAll}
 use Rattle.worked_examples.proofs.Everything.{everything}
 use Rattle.worked_examples.proofs.Books.{books, sample}
 use Rattle.worked_examples.proofs.Hosts.{hosts, blank, host, levels}

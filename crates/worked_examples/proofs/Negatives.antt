@@ -8,7 +8,7 @@ use Rattle.book.specs.Book.{Book}
 use Rattle.solver_expr.specs.SolverExpr.{SExprPrintConfig, flat}
 use Rattle.solver_expr.specs.Print.{printCall}
 use Rattle.solvers.specs.Calls.{askFor}
-use Rattle.solvers.specs.Rule.{run}
+use Rattle.stack_rule.specs.Events.{run}
 use Rattle.worked_examples.proofs.Everything.{everything}
 use Rattle.worked_examples.proofs.Books.{books, written, small}
 use Rattle.worked_examples.proofs.Hosts.{hosts, dirty, blank, host, shows, Seen, print, texts}

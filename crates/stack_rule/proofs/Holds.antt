@@ -1,38 +1,24 @@
 -- What holds after any list of calls, on a book that passes the test.
-use Prim.Native.Nat.{ℕ, _<_}
-use native.Mathlib.Omega.{arith}
 use mathlib.Core.Path.{_≡_, refl, sym, ap, _∙_}
 use mathlib.Core.List.{List, [], _∷_, _++_}
 use Rattle.basics.specs.Outcome.{Outcome, accepted, refused}
 use Rattle.basics.proofs.All.{All, end, all-append}
-use Rattle.book.specs.Book.{Book, terms, size}
+use Rattle.book.specs.Book.{Book}
 use Rattle.book.specs.Program.{path, pathUp}
-use Rattle.book.specs.Decode.{term, program}
 use Rattle.book_test.specs.BookTest.{bookTest}
-use Rattle.book_test.proofs.Promise.{promise}
-use Rattle.solver_expr.proofs.Clean.{CleanR}
 use Rattle.smt_engines.specs.Command.{Command, script}
 use Rattle.smt_engines.specs.Reader.{first, live, hearAll, read, lines}
 use Rattle.smt_engines.proofs.Hearing.{Whole, hears, hears-append, script-append, read-script}
 use Rattle.rsolver.specs.LevelState.{fresh}
-use Rattle.solvers.specs.declared.Owed.the-variants.{Nothing}
 use Rattle.solvers.specs.Session.{Written, textOf, freshSession}
 use Rattle.solvers.specs.Calls.{Call, call}
-use Rattle.solvers.specs.Rule.{standing, levelsOf, levelsFor, Present, present, mustLive, sessionAt, said, Trace, after, runFrom, start, run}
-use Rattle.solvers.proofs.Good.{Good, good, term-clean}
+use Rattle.solvers.specs.Rule.{standing, levelsOf, levelsFor, present, mustLive, sessionAt, said}
+use Rattle.stack_rule.specs.Events.{Trace, after, runFrom, start, run}
 use Rattle.solvers.proofs.Questions.{Fits, Kept}
+use Rattle.solvers.proofs.Root.{rootPresent, G, T, fits-start}
 use Rattle.solvers.proofs.Steps.{step-kept}
-
-unfoldable pub rootPresent : Present
-rootPresent = present 0 0 Nothing
 
 module _ (b : Book) (ok : bookTest b ≡ accepted tt) where
-  pub G : Good (program b)
-  G = good b (promise b ok)
-
-  pub T : (t : ℕ) → t < size b terms → CleanR (term b t)
-  T = term-clean b (promise b ok)
-
   -- what holds after any list of calls
   pub record Holds (t : Trace) : Type 0 where
     pub sent : List Command
@@ -42,12 +28,8 @@ module _ (b : Book) (ok : bookTest b ≡ accepted tt) where
     pub session : t .now ≡ sessionAt b (t .due)
     pub fits : Fits b (t .due)
 
-  pub fits-start : Fits b rootPresent
-  unfolding rootPresent present standing path pathUp fresh
-  fits-start = record { inside = omega arith; clear = refl; asks = refl }
-
   pub kept : (t : Trace) → Holds t → (c : Call) → Kept b (t .due) c (call b (t .now) c)
-  kept t x c = rw (x .session) (step-kept b G T (t .due) (x .fits) c)
+  kept t x c = rw (x .session) (step-kept b (G b ok) (T b ok) (t .due) (x .fits) c)
 
   unfoldable pub holds-after : (t : Trace) → Holds t → (c : Call) (o : Outcome Written) → Kept b (t .due) c o → Holds (after t c o)
   unfolding after textOf
@@ -69,7 +51,7 @@ module _ (b : Book) (ok : bookTest b ≡ accepted tt) where
 
   unfoldable pub holds-start : Holds start
   unfolding start rootPresent script hears hearAll lines mustLive levelsFor levelsOf path pathUp present sessionAt freshSession standing fresh
-  holds-start = record { sent = []; spelled = refl; wholes = end; heard = refl; session = refl; fits = fits-start }
+  holds-start = record { sent = []; spelled = refl; wholes = end; heard = refl; session = refl; fits = fits-start b ok }
 
   pub holds : (cs : List Call) → Holds (run b cs)
   unfolding run

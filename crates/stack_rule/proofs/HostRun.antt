@@ -1,76 +1,35 @@
 -- The host's list of calls is the list of calls that the stack rule speaks of.
-use Prim.Native.Nat.{ℕ, suc, _+_, _^_, _≤_, _<_}
+use Prim.Native.Nat.{ℕ, _+_, _^_, _<_}
 use native.Mathlib.Omega.{arith}
-use mathlib.Core.Path.{_≡_, refl, sym, ap, _∙_, subst}
+use mathlib.Core.Path.{_≡_, refl, ap, _∙_}
 use mathlib.Core.List.{List, [], _∷_, _++_, append-nil}
-use mathlib.Core.Option.{Option, none, some}
-use mathlib.Core.Bool.{Bool, true, false, not, _||_}
-use lib.Dec.{ltb, leb}
-use lib.ListN.{length, take, drop, length-replicate}
-use borrow.Author.Tests.{ltb-false}
-use Rattle.basics.specs.Text.{Text}
-use Rattle.basics.specs.Outcome.{Outcome, refused, accepted, refuse, _>>_, mapOutcome}
+use lib.ListN.{length, take, length-replicate}
+use Rattle.basics.specs.Outcome.{Outcome, refused, accepted, mapOutcome}
 use Rattle.basics.specs.Buffer.{overlay, bufferAfter}
-use Rattle.basics.proofs.Bool.{or-left}
-use Rattle.book.specs.Book.{Book, terms, contexts, size}
+use Rattle.book.specs.Book.{Book}
 use Rattle.book.specs.Decode.{program}
 use Rattle.book_test.specs.BookTest.{bookTest}
-use Rattle.book_test.specs.Promise.{Promise}
 use Rattle.book_test.proofs.Numbers.{test-not20}
 use Rattle.book_test.proofs.Promise.{promise}
 use Rattle.rsolver.specs.LevelState.{levelCount, noLevels}
 use Rattle.solvers.specs.declared.Owed.{Owed}
 use Rattle.solvers.specs.declared.Owed.the-variants.{Nothing, Reply, Model}
-use Rattle.solvers.specs.declared.Session.{Session}
-use Rattle.solvers.specs.Session.{Written, ProofResult, Proved, Unproved, textOf, freshSession}
-use Rattle.solvers.specs.Calls.{Host, reasonOf, fitting, moveCall, askCall, replyCall, modelCall, Call, moveTo, askFor, replyWith, modelWith, hostOf, call}
-use Rattle.solvers.specs.Left.{Values, values, valuesBy, sessionAfter, Left, left, called}
-use Rattle.solvers.specs.Image.{writeImage, readImage, imageAfter, calledOnImage}
-use Rattle.solvers.specs.HostRun.{textLength, taken, HostTrace, hostAfter, hostRunFrom, hostRun}
-use Rattle.solvers.specs.Rule.{Present, sessionAt, Trace, after, runFrom, start, run}
+use Rattle.solvers.specs.Session.{Written, textOf, freshSession}
+use Rattle.solvers.specs.Calls.{Call, hostOf, call}
+use Rattle.solvers.specs.Left.{values, valuesBy, sessionAfter, left, called}
+use Rattle.solvers.specs.Image.{writeImage, imageAfter, calledOnImage}
+use Rattle.solvers.specs.Taken.{textLength, taken}
+use Rattle.stack_rule.specs.HostRun.{HostTrace, hostAfter, hostRunFrom, hostRun}
+use Rattle.solvers.specs.Rule.{Present, sessionAt}
+use Rattle.stack_rule.specs.Events.{Trace, after, runFrom, start, run}
 use Rattle.solvers.proofs.Good.{good}
 use Rattle.solvers.proofs.Questions.{Asks, Fits}
-use Rattle.solvers.proofs.BadBook.{Refused, call-refused, after-refused}
-use Rattle.solvers.proofs.Holds.{Holds, kept, holds-after, holds-start}
+use Rattle.solvers.proofs.BadBook.{Refused, call-refused}
+use Rattle.stack_rule.proofs.BadBook.{after-refused}
+use Rattle.stack_rule.proofs.Holds.{Holds, kept, holds-after, holds-start}
 use Rattle.solvers.proofs.Enough.{levels-length}
+use Rattle.solvers.proofs.Taken.{FitsIn, call-fits, take-overlay, by-length}
 use Rattle.solvers.proofs.Image.{Imaged, read-written}
-
--- ---- an accepted text fits its buffer, and the host takes it whole
-abbrev pub FitsIn : Host → Outcome Written → Type 0
-FitsIn h (refused k) = Unit {0}
-FitsIn h (accepted w) = length (textOf w) ≤ length (h .text)
-
-behind : (h : Host) (o : Outcome (Unit {0})) (rest : Outcome Written) → FitsIn h rest → FitsIn h (o >> rest)
-unfolding _>>_
-behind h (refused k) rest f = tt
-behind h (accepted u) rest f = f
-
-fitting-fits : (h : Host) (w : Written) → FitsIn h (fitting h w)
-unfolding fitting
-fitting-fits h w = at _ refl
-  where
-    at : (x : Bool) → (ltb (length (h .text)) (length (textOf w)) || ltb (length (h .reason)) (length (reasonOf (w .result)))) ≡ x → FitsIn h (refuse 10 x >> accepted w)
-    at true e = unfold refuse _>>_ in tt
-    at false e = unfold refuse _>>_ in ltb-false (length (h .text)) (length (textOf w)) (or-left _ _ e)
-
-pub call-fits : (b : Book) (s : Session) (c : Call) → FitsIn (hostOf c) (call b s c)
-unfolding call moveCall askCall replyCall modelCall hostOf
-call-fits b s (moveTo h n) = behind h _ _ (behind h _ _ (behind h _ _ (behind h _ _ (behind h _ _ (fitting-fits h _)))))
-call-fits b s (askFor h n t) = behind h _ _ (behind h _ _ (behind h _ _ (behind h _ _ (behind h _ _ (fitting-fits h _)))))
-call-fits b s (replyWith h ok r) = behind h _ _ (behind h _ _ (behind h _ _ (fitting-fits h _)))
-call-fits b s (modelWith h r m) = behind h _ _ (behind h _ _ (behind h _ _ (behind h _ _ (fitting-fits h _))))
-
-pub take-overlay : (t : Text) (buffer : List ℕ) → length t ≤ length buffer → take (length t) (overlay t buffer) ≡ t
-unfolding overlay
-take-overlay [] buffer h = refl
-take-overlay (x ∷ t) [] h = absurd (omega arith)
-take-overlay (x ∷ t) (y ∷ buffer) h = ap {B = Text} (λ (r : Text). x ∷ r) (take-overlay t buffer (omega arith))
-
-pub by-length : (r : Option ProofResult) (n : ℕ) → textLength (valuesBy r n) ≡ n
-unfolding textLength valuesBy
-by-length none n = refl
-by-length (some Proved) n = refl
-by-length (some (Unproved reason)) n = refl
 
 -- ---- one call
 abbrev pub held : Trace → HostTrace

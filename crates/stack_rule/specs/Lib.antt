@@ -1,0 +1,4 @@
+pub mod Events
+pub mod Bodies
+pub mod HostRun
+pub mod StackRule
