@@ -2,3 +2,4 @@ pub mod Every
 pub mod Terms
 pub mod Sections
 pub mod Paths
+pub mod ExtendsNodes

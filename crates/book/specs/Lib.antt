@@ -5,3 +5,4 @@ pub mod SType
 pub mod RExpr
 pub mod Program
 pub mod Decode
+pub mod Extends
