@@ -1,97 +1,86 @@
--- The state that the Dafny bodies keep from call to call, for every book and every list of calls: how long its stack is, that no Pop is
--- asked of an empty one, and that no axiom is missed.
+-- The state that the Dafny bodies keep from call to call, after every list of events: what it has sent, how long its stack is, that no
+-- axiom is missed, and that no Pop is asked of an empty stack.
 use Prim.Native.Nat.{_+_}
 use native.Mathlib.Omega.{arith}
 use mathlib.Core.Path.{_≡_, refl, sym, ap, _∙_}
-use mathlib.Core.List.{List, [], _∷_}
 use mathlib.Core.Bool.{false}
+use mathlib.Core.List.{List, [], _∷_}
 use lib.ListN.{length}
 use Rattle.basics.specs.Outcome.{Outcome, refused, accepted}
-use Rattle.book.specs.Book.{Book}
 use Rattle.book.specs.Program.{path, pathUp, depth}
 use Rattle.book.specs.Decode.{program}
-use Rattle.book_test.specs.BookTest.{bookTest}
+use Rattle.smt_engines.specs.Command.{script}
 use Rattle.smt_engines.specs.Reader.{read}
 use Rattle.rsolver.specs.Step.{Step}
 use Rattle.rsolver.specs.SolverState.{SolverState, newSolver, bodies, bodiesOr, Valid}
-use Rattle.rsolver.proofs.Agree.{agree-length, agree-missing}
+use Rattle.rsolver.proofs.Agree.{agree-sent, agree-length, agree-missing}
 use Rattle.solvers.specs.Session.{Written}
 use Rattle.solvers.specs.Calls.{Call, call}
 use Rattle.solvers.specs.Rule.{openQuestions, present, mustLive}
-use Rattle.stack_rule.specs.Events.{Trace, after, start, run}
-use Rattle.stack_rule.specs.Bodies.{doIfAccepted, doFrom, doAll, doAllOr}
-use Rattle.stack_rule.specs.StackRule.{StackRule}
-use Rattle.book_test.proofs.Numbers.{test-not20}
 use Rattle.solvers.proofs.Questions.{stateAt, Kept}
-use Rattle.solvers.proofs.BadBook.{Refused}
-use Rattle.stack_rule.proofs.BadBook.{run-refused}
-use Rattle.stack_rule.proofs.Holds.{kept}
+use Rattle.solvers.proofs.BadBook.{Refused, call-refused}
 use Rattle.solvers.proofs.Bodies.{stack-for, missing-for, call-same, two-levels}
-use Rattle.stack_rule.proofs.Bodies.{Carries, carries-after, carries-start, carried, bad-from, bodies-send}
+use Rattle.stack_rule.specs.Events.{Event, calls, writes, Trace, happens, start}
+use Rattle.stack_rule.specs.Bodies.{doIfAccepted, doEvent, doFrom}
+use Rattle.stack_rule.specs.StackRule.{RuleAt}
+use Rattle.stack_rule.proofs.Holds.{kept}
+use Rattle.stack_rule.proofs.Bodies.{Carries, refused-does}
+use Rattle.stack_rule.proofs.Sound.{Sound, passed, failed, sound-after}
 
-pub record BodiesState (b : Book) (cs : List Call) : Type 0 where
-  pub stack : length (doAll b cs .stack) ≡ openQuestions (run b cs .due .owed) + depth (program b) (run b cs .due .node)
-  pub pops : (wrong : Step SolverState) → doAllOr wrong b cs ≡ doAll b cs
-  pub expects : doAll b cs .missing ≡ false
+carried-stack : (t : Trace) (u : SolverState) → Carries t u → length (u .stack) ≡ openQuestions (t .due .owed) + depth (program (t .book)) (t .due .node)
+unfolding stateAt
+carried-stack t u x = sym (agree-length (x .agree)) ∙ stack-for (t .book) (x .holds .tested) (t .due) (t .due .owed) (x .holds .fits .asks)
 
--- ---- a book that passes the test
-module _ (b : Book) (ok : bookTest b ≡ accepted tt) where
-  carried-stack : (t : Trace) (u : SolverState) → Carries b ok t u → length (u .stack) ≡ openQuestions (t .due .owed) + depth (program b) (t .due .node)
-  unfolding stateAt
-  carried-stack t u x = sym (agree-length (x .agree)) ∙ stack-for b ok (t .due) (t .due .owed) (x .holds .fits .asks)
+carried-missing : (t : Trace) (u : SolverState) → Carries t u → u .missing ≡ false
+unfolding stateAt
+carried-missing t u x =
+    sym (agree-missing (x .agree))
+    ∙ missing-for (t .book) (x .holds .tested) (t .due) (t .due .owed) (x .holds .fits .clear) (x .holds .fits .asks)
 
-  carried-missing : (t : Trace) (u : SolverState) → Carries b ok t u → u .missing ≡ false
-  unfolding stateAt
-  carried-missing t u x = sym (agree-missing (x .agree)) ∙ missing-for b ok (t .due) (t .due .owed) (x .holds .fits .clear) (x .holds .fits .asks)
+pub sound-sent : {t : Trace} {u : SolverState} → Sound t u → script (u .sent) ≡ t .text
+unfolding start newSolver script
+sound-sent (passed k) = ap script (sym (agree-sent (k .agree))) ∙ sym (k .holds .spelled)
+sound-sent (failed b h) = refl
 
-  -- Pop, whatever it does with an empty stack
-  module _ (wrong : Step SolverState) where
-    does-same : (t : Trace) (u : SolverState) → Carries b ok t u → (c : Call) (o : Outcome Written) → Kept b (t .due) c o
-        → doIfAccepted (bodiesOr wrong) b c o u ≡ doIfAccepted bodies b c o u
-    unfolding doIfAccepted
-    does-same t u x c (refused k) h = refl
-    does-same t u x c (accepted w) h = call-same b ok wrong c (t .due .owed) u (h .openFor) (omega (arith, carried-stack t u x))
+pub sound-stack : {t : Trace} {u : SolverState} → Sound t u → length (u .stack) ≡ openQuestions (t .due .owed) + depth (program (t .book)) (t .due .node)
+unfolding start newSolver present openQuestions depth path pathUp
+sound-stack (passed {t = t} {u = u} k) = carried-stack t u k
+sound-stack (failed b h) = refl
 
-    from-same : (cs : List Call) (t : Trace) (u : SolverState) → Carries b ok t u → doFrom (bodiesOr wrong) b t cs u ≡ doFrom bodies b t cs u
-    unfolding doFrom
-    from-same [] t u x = refl
-    from-same (c ∷ cs) t u x =
-        let o = call b (t .now) c in
-        let k = kept b ok t (x .holds) c in
-        ap (doFrom (bodiesOr wrong) b (after t c o) cs) (does-same t u x c o k) ∙ from-same cs (after t c o) _ (carries-after b ok t u x c o k)
+pub sound-missing : {t : Trace} {u : SolverState} → Sound t u → u .missing ≡ false
+unfolding newSolver
+sound-missing (passed {t = t} {u = u} k) = carried-missing t u k
+sound-missing (failed b h) = refl
 
-  good-state : (cs : List Call) → BodiesState b cs
-  unfolding doAll doAllOr
-  good-state cs =
-      record {
-        stack = carried-stack (run b cs) (doAll b cs) (carried b ok cs);
-        pops = λ wrong. from-same wrong cs start newSolver (carries-start b ok);
-        expects = carried-missing (run b cs) (doAll b cs) (carried b ok cs);
-      }
-
--- ---- a book that fails it
-module _ (b : Book) (bad : Refused (bookTest b)) where
-  bad-state : (cs : List Call) → BodiesState b cs
-  unfolding doAll doAllOr run start newSolver present openQuestions depth path pathUp
-  bad-state cs =
-      record {
-        stack = rw (run-refused b bad start cs, bad-from b bad bodies cs start newSolver) (omega arith);
-        pops = λ wrong. bad-from b bad (bodiesOr wrong) cs start newSolver ∙ sym (bad-from b bad bodies cs start newSolver);
-        expects = rw (bad-from b bad bodies cs start newSolver);
-      }
-
-pub bodies-state : (b : Book) (cs : List Call) → BodiesState b cs
-bodies-state b cs = at (bookTest b) refl
-  where
-    at : (o : Outcome (Unit {0})) → bookTest b ≡ o → BodiesState b cs
-    at (refused k) e = bad-state b (rw e (rw e at (test-not20 b))) cs
-    at (accepted tt) e = good-state b e cs
-
-pub valid-bodies : (b : Book) (cs : List Call) → length (doAll b cs .stack) ≡ openQuestions (run b cs .due .owed) + depth (program b) (run b cs .due .node)
-    → StackRule b cs → Valid (openQuestions (run b cs .due .owed)) (doAll b cs)
-valid-bodies b cs s r =
+pub sound-valid : {t : Trace} {u : SolverState} → Sound t u → RuleAt t → Valid (openQuestions (t .due .owed)) u
+sound-valid {t} s r =
     record {
-      commandStacks = mustLive b (run b cs .due);
-      reads = ap read (bodies-send b cs) ∙ r .reads;
-      lengths = omega (arith, r .height, two-levels (run b cs .due .owed));
+      commandStacks = mustLive (t .book) (t .due);
+      reads = ap read (sound-sent s) ∙ r .reads;
+      lengths = omega (arith, sound-stack s, r .height, two-levels (t .due .owed));
     }
+
+-- ---- Pop, whatever it does with an empty stack
+module _ (wrong : Step SolverState) where
+  does-same : (t : Trace) (u : SolverState) → Carries t u → (c : Call) (o : Outcome Written) → Kept (t .book) (t .due) c o
+      → doIfAccepted (bodiesOr wrong) (t .book) c o u ≡ doIfAccepted bodies (t .book) c o u
+  unfolding doIfAccepted
+  does-same t u x c (refused k) h = refl
+  does-same t u x c (accepted w) h =
+      call-same (t .book) (x .holds .tested) wrong c (t .due .owed) u (h .openFor) (omega (arith, carried-stack t u x))
+
+  event-same : {t : Trace} {u : SolverState} → Sound t u → (e : Event) → doEvent (bodiesOr wrong) t e u ≡ doEvent bodies t e u
+  unfolding doEvent
+  event-same (passed {t = t} {u = u} k) (calls c) = does-same t u k c (call (t .book) (t .now) c) (kept t (k .holds) c)
+  event-same (passed k) (writes x) = refl
+  event-same (failed b h) (calls c) =
+      let o = call (start b .book) (start b .now) c in
+      let r : Refused o = unfold start in call-refused b h (start b .now) c in
+      refused-does (bodiesOr wrong) (start b .book) c o r newSolver ∙ sym (refused-does bodies (start b .book) c o r newSolver)
+  event-same (failed b h) (writes x) = refl
+
+  pub pops-same : (es : List Event) (t : Trace) (u : SolverState) → Sound t u → doFrom (bodiesOr wrong) t es u ≡ doFrom bodies t es u
+  unfolding doFrom
+  pops-same [] t u s = refl
+  pops-same (e ∷ es) t u s =
+      ap (doFrom (bodiesOr wrong) (happens t e) es) (event-same s e) ∙ pops-same es (happens t e) (doEvent bodies t e u) (sound-after s e)

@@ -1,7 +1,7 @@
--- A fresh session, given scratch and buffer enough, is sent straight to a present that fits, and stands there as the list of calls does.
+-- A fresh session, given scratch and buffer enough, is sent straight to a present that fits, and stands there as the list of events does.
 use Prim.Native.Nat.{ℕ}
-use mathlib.Core.Path.{_≡_, refl, sym, ap, _∙_}
-use mathlib.Core.List.{List, [], _∷_}
+use mathlib.Core.Path.{_≡_, refl, sym, ap, _∙_, subst}
+use mathlib.Core.List.{[], _∷_}
 use Rattle.basics.specs.Outcome.{accepted}
 use Rattle.book.specs.Book.{Book}
 use Rattle.book.specs.Program.{path, pathUp}
@@ -13,15 +13,26 @@ use Rattle.solvers.specs.declared.Owed.{Owed}
 use Rattle.solvers.specs.declared.Owed.the-variants.{Nothing, Reply, Model}
 use Rattle.solvers.specs.declared.Session.{Session}
 use Rattle.solvers.specs.Session.{Written, freshSession}
-use Rattle.solvers.specs.Calls.{Host, Call, moveTo}
-use Rattle.solvers.specs.Rule.{standing, levelsFor, goalLevels, Present, present, next, nodeLevels, mustLive, sessionAt, said}
-use Rattle.stack_rule.specs.Events.{after, runFrom, start, run, straightTo, straight}
-use Rattle.solvers.specs.Calls.{Enough}
-use Rattle.stack_rule.specs.StackRule.{Same}
-use Rattle.solvers.proofs.Questions.{Fits}
+use Rattle.solvers.specs.Calls.{Host, Enough, Call, moveTo}
+use Rattle.solvers.specs.Rule.{standing, levelsFor, goalLevels, present, next, nodeLevels, mustLive, sessionAt, said}
+use Rattle.solvers.proofs.Questions.{Fits, Kept}
 use Rattle.solvers.proofs.Root.{rootPresent}
 use Rattle.solvers.proofs.Straight.{Takes, roomFor, nobody, move-yes, ask-yes}
-use Rattle.stack_rule.proofs.Holds.{holds, reads}
+use Rattle.stack_rule.specs.Events.{calls, Trace, after, happens, runFrom, start, run, straightTo, straight}
+use Rattle.stack_rule.specs.StackRule.{Same}
+use Rattle.stack_rule.proofs.Holds.{Holds, kept, holds-after, holds-start, reads-at}
+
+-- ---- one call from a fresh session
+module _ (b : Book) (ok : bookTest b ≡ accepted tt) (c : Call) (y : Written) (e : Takes b c y) where
+  pub run-one : run b (calls c ∷ []) ≡ after (start b) c (accepted y)
+  unfolding run runFrom happens start sessionAt freshSession standing fresh path pathUp rootPresent present
+  run-one = ap (after (start b) c) e
+
+  pub holds-one : Holds (after (start b) c (accepted y))
+  unfolding start sessionAt freshSession standing fresh path pathUp rootPresent present
+  holds-one =
+      let x = holds-start b ok in
+      holds-after (start b) x c (accepted y) (subst (Kept b rootPresent c) e (kept (start b) x c))
 
 module _ (b : Book) (ok : bookTest b ≡ accepted tt) where
   straight-yes : (h : Host) (n t : ℕ) (o : Owed) → Fits b (present n t o) → Enough (roomFor b (straightTo o h n t)) h
@@ -38,9 +49,11 @@ module _ (b : Book) (ok : bookTest b ≡ accepted tt) where
   same-live h n t Reply = refl
   same-live h n t Model = refl
 
-  run-one : (c : Call) (y : Written) → Takes b c y → run b (c ∷ []) .due ≡ next rootPresent c
-  unfolding run start runFrom after sessionAt freshSession standing fresh path pathUp rootPresent present
-  run-one c y e = rw e
+  same-node : (h : Host) (n t : ℕ) (o : Owed) → next rootPresent (straightTo o h n t) .node ≡ n
+  unfolding straightTo next present
+  same-node h n t Nothing = refl
+  same-node h n t Reply = refl
+  same-node h n t Model = refl
 
   -- what is said does not hang on the host
   room-same : (h k : Host) (n t : ℕ) (o : Owed) → roomFor b (straightTo o h n t) ≡ roomFor b (straightTo o k n t)
@@ -49,42 +62,30 @@ module _ (b : Book) (ok : bookTest b ≡ accepted tt) where
   room-same h k n t Reply = refl
   room-same h k n t Model = refl
 
-  straight-due : (w : Present) → Fits b w → (h : Host) → Enough (roomFor b (straight (nobody b ok) w)) h
-      → run b (straight h w ∷ []) .due ≡ next rootPresent (straight h w)
-  unfolding straight present
-  straight-due w f h k =
-      let n = w .node in
-      let t = w .goal in
-      let o = w .owed in
-      let y = straight-yes h n t o f (rw (room-same h (nobody b ok) n t o) k) in
-      run-one (straightTo o h n t) (y .0) (y .1)
-
-  same-node : (h : Host) (n t : ℕ) (o : Owed) → next rootPresent (straightTo o h n t) .node ≡ n
-  unfolding straightTo next present
-  same-node h n t Nothing = refl
-  same-node h n t Reply = refl
-  same-node h n t Model = refl
-
-  pub straight-same : (cs : List Call) (h : Host) → Enough (roomFor b (straight (nobody b ok) (run b cs .due))) h
-      → Same (run b cs) (run b (straight h (run b cs .due) ∷ []))
-  unfolding straight present sessionAt
-  straight-same cs h k =
-      let w = run b cs .due in
-      let c = straight h w in
-      let d = straight-due w (holds b ok cs .fits) h k in
-      let node : run b (c ∷ []) .due .node ≡ w .node = ap (λ (z : Present). z .node) d ∙ same-node h (w .node) (w .goal) (w .owed) in
-      let now = holds b ok cs .session in
-      let then = holds b ok (c ∷ []) .session in
-      record {
-        live = reads b ok cs ∙ ap live (sym (ap (mustLive b) d ∙ same-live h (w .node) (w .goal) (w .owed))) ∙ sym (reads b ok (c ∷ []));
-        node = ap (λ (s : Session). s .node) now ∙ sym (ap (λ (s : Session). s .node) then ∙ node);
-        levels =
-            ap (λ (s : Session). s .levels) now
-            ∙ sym (ap (λ (s : Session). s .levels) then ∙ ap (λ (n : ℕ). standing (program b) (path (program b) n) .levels) node);
-      }
-
   pub moved-there : (n : ℕ) → Fits b (present n 0 Nothing) → (h : Host) → Enough (roomFor b (moveTo (nobody b ok) n)) h
-      → read (run b (moveTo h n ∷ []) .text) ≡ live (nodeLevels b n)
-  unfolding mustLive levelsFor nodeLevels next present
+      → read (run b (calls (moveTo h n) ∷ []) .text) ≡ live (nodeLevels b n)
+  unfolding mustLive levelsFor nodeLevels next present after start
   moved-there n f h k =
-      reads b ok (moveTo h n ∷ []) ∙ ap (λ (w : Present). live (mustLive b w)) (run-one (moveTo h n) _ (move-yes b ok h n f (unfold roomFor said in k)))
+      let y = move-yes b ok h n f (unfold roomFor said in k) in
+      ap (λ (t : Trace). read (t .text)) (run-one b ok (moveTo h n) _ y) ∙ reads-at _ (holds-one b ok (moveTo h n) _ y)
+
+pub straight-there : (t : Trace) (x : Holds t) (h : Host) → Enough (roomFor (t .book) (straight (nobody (t .book) (x .tested)) (t .due))) h
+    → Same t (run (t .book) (calls (straight h (t .due)) ∷ []))
+unfolding straight present rootPresent sessionAt after start
+straight-there t x h k =
+    let b = t .book in
+    let n = t .due .node in
+    let g = t .due .goal in
+    let o = t .due .owed in
+    let c = straightTo o h n g in
+    let y = straight-yes b (x .tested) h n g o (x .fits) (rw (room-same b (x .tested) h (nobody b (x .tested)) n g o) k) in
+    let u = holds-one b (x .tested) c (y .0) (y .1) in
+    let node = same-node b (x .tested) h n g o in
+    subst (Same t) (sym (run-one b (x .tested) c (y .0) (y .1)))
+    (record {
+      live = reads-at t x ∙ ap live (sym (same-live b (x .tested) h n g o)) ∙ sym (reads-at _ u);
+      node = ap (λ (s : Session). s .node) (x .session) ∙ sym (ap (λ (s : Session). s .node) (u .session) ∙ node);
+      levels =
+          ap (λ (s : Session). s .levels) (x .session)
+          ∙ sym (ap (λ (s : Session). s .levels) (u .session) ∙ ap (λ (m : ℕ). standing (program b) (path (program b) m) .levels) node);
+    })

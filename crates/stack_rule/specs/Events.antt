@@ -1,9 +1,10 @@
--- A list of calls on one book from a fresh session.
+-- A list of events from a fresh session: calls, and calls of the writer between them, in any order, also while a reply or model is owed.
 use Prim.Native.Nat.{ℕ}
 use mathlib.Core.List.{List, [], _∷_, _++_}
 use Rattle.basics.specs.Text.{Text}
 use Rattle.basics.specs.Outcome.{Outcome, refused, accepted}
 use Rattle.book.specs.Book.{Book}
+use Rattle.book_writer.specs.Writing.{Lent, write, newest}
 use Rattle.solvers.specs.declared.Owed.{Owed}
 use Rattle.solvers.specs.declared.Owed.the-variants.{Nothing, Reply, Model}
 use Rattle.solvers.specs.declared.Session.{Session}
@@ -11,25 +12,35 @@ use Rattle.solvers.specs.Session.{Written, textOf, freshSession}
 use Rattle.solvers.specs.Calls.{Host, Call, moveTo, askFor, call}
 use Rattle.solvers.specs.Rule.{Present, present, next}
 
--- each call gets the session that the last one returned or left
+pub data Event : Type 0 where
+  calls : Call → Event
+  writes : Lent → Event
+
 pub record Trace : Type 0 where
+  pub book : Book  -- the newest
   pub now : Session
   pub text : Text  -- the accepted calls' texts, in order
   pub due : Present
 
 unfoldable pub after : Trace → Call → Outcome Written → Trace
 after t c (refused k) = t
-after t c (accepted w) = record { now = w .session; text = t .text ++ textOf w; due = next (t .due) c }
+after t c (accepted w) = record { book = t .book; now = w .session; text = t .text ++ textOf w; due = next (t .due) c }
 
-unfoldable pub runFrom : Book → Trace → List Call → Trace
-runFrom b t [] = t
-runFrom b t (c ∷ cs) = runFrom b (after t c (call b (t .now) c)) cs
+-- a call gets the newest book and the session that the last call returned or left. A growth touches no session; a refused one changes
+-- nothing
+unfoldable pub happens : Trace → Event → Trace
+happens t (calls c) = after t c (call (t .book) (t .now) c)
+happens t (writes x) = record { book = newest (t .book) (write (t .book) x); now = t .now; text = t .text; due = t .due }
 
-unfoldable pub start : Trace
-start = record { now = freshSession; text = []; due = present 0 0 Nothing }
+unfoldable pub runFrom : Trace → List Event → Trace
+runFrom t [] = t
+runFrom t (e ∷ es) = runFrom (happens t e) es
 
-unfoldable pub run : Book → List Call → Trace
-run b cs = runFrom b start cs
+unfoldable pub start : Book → Trace
+start b = record { book = b; now = freshSession; text = []; due = present 0 0 Nothing }
+
+unfoldable pub run : Book → List Event → Trace
+run b es = runFrom (start b) es
 
 -- the call that brings a fresh session straight to the present
 unfoldable pub straightTo : Owed → Host → ℕ → ℕ → Call
