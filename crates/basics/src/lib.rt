@@ -1,13 +1,17 @@
-// Basics.dfy: text that is written into a buffer, and decimal numbers.
+// Basics.dfy: text that is written into a buffer, and decimal numbers; and texts that are compared.
 mod decimal;
+mod letters;
 mod place;
+mod word;
 mod write;
 
 pub use decimal::SIGN;
 pub use decimal::put_i64;
 pub use decimal::put_int;
 pub use decimal::put_u64;
+pub use letters::same;
 pub use place::put_at;
+pub use word::put_word;
 pub use write::MOST;
 pub use write::clip;
 pub use write::put;

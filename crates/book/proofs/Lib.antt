@@ -2,4 +2,5 @@ pub mod Every
 pub mod Terms
 pub mod Sections
 pub mod Paths
+pub mod Words
 pub mod ExtendsNodes

@@ -3,6 +3,7 @@ use Prim.Native.Nat.{ℕ, zero, suc, _+_, _*_}
 use mathlib.Core.List.{List, [], _∷_}
 use lib.ListN.{getD, take, drop}
 use Rattle.basics.specs.Text.{Text}
+use Rattle.basics.specs.Letters.{fourAt}
 
 abbrev pub Book : Type 0
 Book = List ℕ
@@ -55,7 +56,7 @@ contentsSize = 80
 
 -- an unsigned 32-bit number, little-endian; 0 behind the end
 abbrev pub word : Book → ℕ → ℕ
-word b at = getD b at 0 + 256 * getD b (at + 1) 0 + 65536 * getD b (at + 2) 0 + 16777216 * getD b (at + 3) 0
+word b at = fourAt b at
 
 unfoldable pub offset : Book → Section → ℕ
 offset b s = word b (8 * s .number)

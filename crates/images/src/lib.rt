@@ -3,8 +3,9 @@ ghost use mathlib.Core.Path.{_≡_};
 ghost use Prim.Native.Nat.{_+_, _≤_};
 ghost use lib.ListN.{length, drop};
 ghost use Rattle.book.specs.Book.{word};
-ghost use Rattle.solvers.specs.Image.{imageSize, headSize, bytes4, owedNumber, owedOf, noSession, isImage, readImage, writeImage};
-ghost use Rattle.images.specs.Placed.{placed};
+ghost use Rattle.solvers.specs.Image.{imageSize, headSize, owedNumber, owedOf, noSession, isImage, readImage, writeImage};
+use basics::put_at;
+use basics::put_word;
 use session_levels::LEVEL_COUNT;
 use solvers::Owed;
 use solvers::Session;
@@ -37,28 +38,11 @@ const NO_NODE: u32 = 0xFFFF_FFFF;
 
 const NO_GOAL: u32 = 0;
 
-// As many values as one byte has, two, three.
-const BYTE: u32 = 0x100;
-
-const BYTES2: u32 = 0x10000;
-
-const BYTES3: u32 = 0x1000000;
-
 fn word(image: &[u8], at: usize) -> u32
     requires { ⌜ at + 4 ≤ length (now image) ⌝ }
     ensures { λ r. ⌜ r ≡ word (now (image .entry)) at ⌝ }
 {
     book::word(image, at) as u32
-}
-
-fn put_word(image: &mut [u8], at: usize, x: u32)
-    requires { ⌜ at + 4 ≤ length (now image) ⌝ }
-    ensures { λ _. ⌜ now (image .exit) ≡ placed at (bytes4 x) (now (image .entry)) ⌝ }
-{
-    image[at] = (x % BYTE) as u8;
-    image[at + 1] = (x / BYTE % BYTE) as u8;
-    image[at + 2] = (x / BYTES2 % BYTE) as u8;
-    image[at + 3] = (x / BYTES3 % BYTE) as u8;
 }
 
 fn owed_number(owed: Owed) -> u32
@@ -139,9 +123,9 @@ pub fn save(s: Session, image: &mut [u8])
 {
     let owed = s.owed;
     let levels = s.levels;
-    put_word(image, KIND_AT, KIND);
-    put_word(image, NODE_AT, s.node);
-    put_word(image, GOAL_AT, s.goal);
-    put_word(image, OWED_AT, owed_number(owed));
-    basics::put_all(&levels, &mut image[LEVELS_AT..]);
+    let node_at = put_word(KIND as usize, KIND_AT, image);
+    let goal_at = put_word(s.node as usize, node_at, image);
+    let owed_at = put_word(s.goal as usize, goal_at, image);
+    let levels_at = put_word(owed_number(owed) as usize, owed_at, image);
+    put_at(&levels, levels_at, image);
 }

@@ -1,4 +1,2 @@
-pub mod Equal
-mod Stepping
 mod Pairs
 pub mod Naming

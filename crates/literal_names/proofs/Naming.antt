@@ -3,13 +3,13 @@ use Prim.Native.Nat.{ℕ, zero, suc, _+_, _-_, _<_}
 use native.Mathlib.Omega.{arith}
 use mathlib.Core.Path.{_≡_, refl, sym, ap, _∙_}
 use mathlib.Core.Bool.{Bool, false, _&&_}
-use lib.ListN.{length, drop, length-drop}
-use lib.Seq.{length-take-le}
+use lib.ListN.{length}
 use Rattle.basics.specs.Text.{Text, ascii, same}
-use Rattle.book.specs.Book.{Book, letters, names, types, terms, offset, size, field, nameText}
+use Rattle.book.specs.Book.{Book, names, types, terms, size, field, nameText}
 use Rattle.book.specs.Laid.{sectionAt, Holds}
 use Rattle.book.specs.Decode.{typeOf, literalOf}
 use Rattle.book_test.specs.Promise.{Promise, GoodLiteral}
+use Rattle.book_test.proofs.Names.{name-length}
 use Rattle.solver_expr.specs.SolverExpr.{typeToString}
 use Rattle.solver_expr.specs.Lowering.{literalName}
 use Rattle.literal_names.specs.Names.{barred}
@@ -53,21 +53,17 @@ module _ (b : Book) where
   pub reads-record : Promise b → {n : ℕ} (i : ℕ) → i < 2 → n < size b names → (1 < 10) × Holds b (sectionAt 1) n i
   reads-record P i l h = (omega arith, record { laid = P .names-laid; here = h; within = omega arith })
 
-  pub name-length : Promise b → (n : ℕ) → n < size b names → length (nameText b n) ≡ field b names n 1
-  unfolding nameText
-  name-length P n h = length-take-le _ (drop (offset b letters + field b names n 0) b) (omega (arith, length-drop (offset b letters + field b names n 0) b, P .name n h .ends, P .letters-laid .whole))
-
   pub one-place : (n m : ℕ) → field b names n 0 ≡ field b names m 0 → field b names n 1 ≡ field b names m 1 → nameText b n ≡ nameText b m
   unfolding nameText
   one-place n m e f = rw (e, f)
 
   pub user-length : Promise b → (k : ℕ) {n r : ℕ} → k < 2 + size b types → (k ≡ 0 → ⊥) → (k ≡ 1 → ⊥) → n ≡ field b types (k - 2) 0 → r ≡ field b names n 1 → r ≡ length (typeToString (typeOf b k))
   user-length P k g z o e f =
-      f ∙ ap (λ (j : ℕ). field b names j 1) e ∙ sym (name-length P _ (P .type-name (k - 2) (user-type g z o))) ∙ ap length (string-user k z o)
+      f ∙ ap (λ (j : ℕ). field b names j 1) e ∙ sym (name-length b P _ (P .type-name (k - 2) (user-type g z o))) ∙ ap length (string-user k z o)
 
   pub lengths : Promise b → (k : ℕ) {n x y z : ℕ} → GoodLiteral b k → n ≡ field b terms k 1 → x ≡ field b names n 1 → y ≡ field b terms k 2 → z ≡ length (typeToString (typeOf b y))
       → x + z ≡ length (nameText b (field b terms k 1)) + length (typeToString (typeOf b (field b terms k 2)))
-  lengths P k g e f h i = omega (arith, f ∙ ap (λ (j : ℕ). field b names j 1) e ∙ sym (name-length P _ (g .name)), i ∙ ap (λ (j : ℕ). length (typeToString (typeOf b j))) h)
+  lengths P k g e f h i = omega (arith, f ∙ ap (λ (j : ℕ). field b names j 1) e ∙ sym (name-length b P _ (g .name)), i ∙ ap (λ (j : ℕ). length (typeToString (typeOf b j))) h)
 
   -- ---- a literal against a name
   pub by-name : (k : ℕ) (s typ : Text) → typ ≡ typeToString (typeOf b (field b terms k 2)) → same (barred s typ) (literalName (literalOf b k)) ≡ same s (nameText b (field b terms k 1))

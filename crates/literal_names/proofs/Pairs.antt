@@ -12,9 +12,8 @@ use lib.Seq.{split-at, length-take-le, take-all}
 use borrow.Author.Tests.{eq-eqb, ne-eqb}
 use Rattle.basics.specs.Text.{Text, ascii, same}
 use Rattle.basics.proofs.Bool.{and-true, and-false}
-use Rattle.basics.proofs.Texts.{same-refl}
+use Rattle.basics.proofs.Texts.{same-refl, same-length, same-append}
 use Rattle.literal_names.specs.Names.{pairText, barred}
-use Rattle.literal_names.proofs.Equal.{same-length, same-append}
 
 pair-length : (s typ : Text) → length (pairText s typ) ≡ length s + length typ + 1
 pair-length s typ = length-append s (0x3A ∷ typ) ∙ omega arith

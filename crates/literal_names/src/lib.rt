@@ -1,8 +1,6 @@
 // Literals are told apart by their whole names, |s:type|, as texts: whether a term is a literal of a given name.
-mod letters;
 mod names;
 
-pub use letters::same;
 pub use names::agrees;
 
 // What is looked for: the numbers of a literal's name and of its type.

@@ -11,7 +11,7 @@ ghost use Rattle.solver_expr.specs.SolverExpr.{typeToString};
 ghost use Rattle.solver_expr.specs.Lowering.{literalName};
 ghost use Rattle.literal_names.specs.Names.{barred, Seeks};
 use super::Sought;
-use super::letters::same;
+use basics::same;
 use book::field;
 use book::format::*;
 use book::name;

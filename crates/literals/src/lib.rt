@@ -11,6 +11,7 @@ ghost use Rattle.levels.specs.Did.{Ready, Did};
 ghost use Rattle.literal_names.specs.Names.{barred, Seeks};
 ghost use Rattle.literals.specs.Literals.{newLiteralStep, literalStep};
 ghost use Rattle.literals.specs.Search.{isFound, searchValue};
+use basics::same;
 use book::field;
 use book::format::*;
 use finding::find_literal;
@@ -19,7 +20,6 @@ use levels::Progress;
 use levels::declare_new_types;
 use levels::mark;
 use literal_names::Sought;
-use literal_names::same;
 use records::named;
 
 mod finding;

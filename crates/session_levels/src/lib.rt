@@ -2,7 +2,7 @@
 ghost use mathlib.Core.Path.{_≡_};
 ghost use Prim.Native.Nat.{_+_};
 ghost use lib.Dec.{leb};
-ghost use Rattle.basics.specs.Text.{same, if_then_else_};
+ghost use Rattle.basics.specs.Text.{if_then_else_};
 ghost use Rattle.rsolver.specs.LevelState.{noLevels, forget};
 use book::format::*;
 
@@ -40,21 +40,4 @@ pub fn clear_above(levels: &mut [u8], depth: usize)
         levels[i] = kept(levels[i], depth);
         i += 1;
     }
-}
-
-// The same bytes.
-pub fn same(a: &[u8], b: &[u8]) -> bool
-    ensures { λ r. ⌜ r ≡ same (now (a .entry)) (now (b .entry)) ⌝ }
-{
-    if a.len() != b.len() {
-        return false;
-    }
-    let mut i = 0;
-    while i < a.len() {
-        if a[i] != b[i] {
-            return false;
-        }
-        i += 1;
-    }
-    true
 }

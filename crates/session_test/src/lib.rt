@@ -4,12 +4,12 @@ ghost use Rattle.basics.specs.Text.{same};
 ghost use Rattle.book.specs.Decode.{program};
 ghost use Rattle.book_test.specs.Promise.{Promise};
 ghost use Rattle.solvers.specs.Calls.{goalFits, isSession};
+use basics::same;
 use book::count;
 use book::format::CONTEXTS;
 use book::format::TERMS;
 use engine::set_context;
 use session_levels::blank;
-use session_levels::same;
 use solvers::Owed;
 use solvers::Session;
 

@@ -1,11 +1,12 @@
 -- The byte image of a session, which the host holds (docs/SESSION.md): four words and the levels.
-use Prim.Native.Nat.{ℕ, _+_, _/_, _%_}
+use Prim.Native.Nat.{ℕ, _+_}
 use mathlib.Core.List.{List, [], _∷_, _++_}
 use mathlib.Core.Bool.{Bool, true, false, _&&_}
 use lib.Dec.{eqb, ltb}
 use lib.ListN.{length, getD, drop}
 use Rattle.basics.specs.Text.{if_then_else_}
 use Rattle.basics.specs.Outcome.{Outcome, refused, accepted}
+use Rattle.basics.specs.Bytes.{bytes4}
 use Rattle.book.specs.Book.{Book, word}
 use Rattle.rsolver.specs.LevelState.{levelCount, noLevels}
 use Rattle.solvers.specs.declared.Owed.{Owed}
@@ -14,10 +15,6 @@ use Rattle.solvers.specs.declared.Session.{Session}
 use Rattle.solvers.specs.Session.{Written, session}
 use Rattle.solvers.specs.Calls.{Call, hostOf, call}
 use Rattle.solvers.specs.Left.{Values, Left, called}
-
--- an unsigned 32-bit number, little-endian
-unfoldable pub bytes4 : ℕ → List ℕ
-bytes4 x = x % 256 ∷ x / 256 % 256 ∷ x / 65536 % 256 ∷ x / 16777216 % 256 ∷ []
 
 -- the layout: one byte for each level
 abbrev pub imageKind : ℕ

@@ -6,7 +6,8 @@ use Rattle.basics.specs.Text.{same}
 use Rattle.basics.proofs.Bool.{failed}
 use Rattle.book.specs.Book.{nameText}
 use Rattle.records.proofs.Readers.{reads-term}
-use Rattle.literal_names.proofs.Naming.{reads-record, name-length, by-length, by-front}
+use Rattle.book_test.proofs.Names.{name-length}
+use Rattle.literal_names.proofs.Naming.{reads-record, by-length, by-front}
 use borrow.Author.Needs.{needs}
 use Rattle.literal_names.proofs.names.has_name_of_other_type.Statement.{statement}
 use Rattle.literal_names.proofs.names.has_name_of_other_type.Tie as tie

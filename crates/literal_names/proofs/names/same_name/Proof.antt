@@ -3,8 +3,9 @@ use mathlib.Core.Path.{sym, ap, _∙_}
 use lib.ListN.{length}
 use Rattle.basics.specs.Text.{same}
 use Rattle.records.proofs.Readers.{reads-name}
-use Rattle.literal_names.proofs.Equal.{same-yes, same-length}
-use Rattle.literal_names.proofs.Naming.{reads-record, name-length, one-place}
+use Rattle.basics.proofs.Texts.{same-yes, same-length}
+use Rattle.book_test.proofs.Names.{name-length}
+use Rattle.literal_names.proofs.Naming.{reads-record, one-place}
 use borrow.Author.Needs.{needs}
 use Rattle.literal_names.proofs.names.same_name.Statement.{statement}
 use Rattle.literal_names.proofs.names.same_name.Tie as tie

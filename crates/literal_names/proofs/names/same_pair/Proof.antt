@@ -3,7 +3,7 @@ use mathlib.Core.Bool.{Bool, _&&_}
 use mathlib.Core.Path.{sym, ap, _∙_}
 use Rattle.basics.specs.Text.{same}
 use Rattle.basics.proofs.Bool.{passed, failed}
-use Rattle.literal_names.proofs.Equal.{same-sym}
+use Rattle.basics.proofs.Texts.{same-sym}
 use Rattle.literal_names.proofs.Pairs.{longer, one-colon}
 use borrow.Author.Needs.{needs}
 use Rattle.literal_names.proofs.names.same_pair.Statement.{statement}

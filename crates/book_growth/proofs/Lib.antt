@@ -1,0 +1,10 @@
+pub mod Grown
+pub mod KeptRecords
+pub mod KeptTerms
+pub mod KeptProgram
+pub mod Added
+pub mod GrownProgram
+pub mod Written
+pub mod Within
+pub mod TwoParts
+mod Worked

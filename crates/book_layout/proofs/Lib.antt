@@ -1,0 +1,12 @@
+pub mod Stands
+pub mod Rows
+pub mod EachSection
+pub mod Coded
+pub mod Assembled
+pub mod Contents
+pub mod Whole
+pub mod Few
+pub mod Bodies
+pub mod Agree
+pub mod AllBytes
+pub mod Tables

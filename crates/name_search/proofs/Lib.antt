@@ -1,0 +1,2 @@
+mod Position
+pub mod Searching
