@@ -9,6 +9,7 @@ use Rattle.book.specs.Book.{Book, contexts, size}
 use Rattle.book.specs.Decode.{program}
 use Rattle.book_test.specs.BookTest.{bookTest}
 use Rattle.book_growth.specs.Grows.{Grows}
+use Rattle.book_growth.proofs.Order.{grows-refl, grows-trans}
 use Rattle.book_writer.specs.Writing.{Lent, write, newest}
 use Rattle.book_writer.proofs.Writing.{write-grows}
 use Rattle.rsolver.specs.LevelState.{LevelState}
@@ -16,7 +17,7 @@ use Rattle.nodes_test.specs.NodesTest.{couldMove, nodesTested}
 use Rattle.nodes_test.proofs.Never9.{passes, never}
 use Rattle.stack_rule.specs.Events.{Event, calls, writes, Trace, after, happens, runFrom, start, run}
 use Rattle.stack_rule.specs.Growth.{Never9After}
-use Rattle.stack_rule.proofs.GrownBook.{standing-kept, grows-refl, grows-trans}
+use Rattle.stack_rule.proofs.GrownBook.{standing-kept}
 use Rattle.solvers.specs.Session.{Written}
 use Rattle.solvers.specs.Calls.{Call, call}
 

@@ -1,22 +1,17 @@
 -- What a book gives for a present that fits it, a book that grew from it gives too.
-use Prim.Native.Nat.{ℕ, _+_, _≤_, _<_}
+use Prim.Native.Nat.{ℕ, _≤_, _<_}
 use native.Mathlib.Omega.{arith}
-use mathlib.Core.Path.{_≡_, refl, sym, ap, ap₂, _∙_}
-use mathlib.Core.List.{List, [], append-nil, append-assoc, _++_}
-use mathlib.Core.Option.{Option}
-use lib.ListN.{length, length-append}
-use Rattle.basics.specs.Outcome.{accepted}
-use Rattle.book.specs.RExpr.{RExpr, Literal}
+use mathlib.Core.Path.{_≡_, ap, ap₂, _∙_}
+use lib.ListN.{length}
+use Rattle.book.specs.RExpr.{RExpr}
 use Rattle.book.specs.Book.{Book, terms, contexts, size}
-use Rattle.book.specs.Program.{Context, Program, path}
+use Rattle.book.specs.Program.{path}
 use Rattle.book.specs.Decode.{term, program}
 use Rattle.book.proofs.Every.{EveryR}
-use Rattle.book.proofs.Terms.{contexts-length, literals-length}
-use Rattle.book_test.specs.BookTest.{bookTest}
+use Rattle.book.proofs.Terms.{contexts-length}
 use Rattle.book_test.proofs.Promise.{promise}
 use Rattle.rsolver.specs.LevelState.{LevelState, levelled, send}
 use Rattle.rsolver.specs.REngine.{assumeNot}
-use Rattle.book.specs.Extends.{Extends}
 use Rattle.rsolver.proofs.Placed.{placed, PlacedProgram}
 use Rattle.rsolver.proofs.Unmarked.{Unmarked}
 use Rattle.solvers.specs.declared.Owed.{Owed}
@@ -25,38 +20,11 @@ use Rattle.solvers.specs.declared.Session.{Session}
 use Rattle.solvers.specs.Session.{session}
 use Rattle.solvers.specs.Rule.{standing, goalState, levelsOf, levelsFor, moveCommands, questionCommands, Present, mustLive, sessionAt}
 use Rattle.book_growth.specs.Grows.{Grows}
+use Rattle.book_growth.proofs.Order.{terms-grew, contexts-grew}
 use Rattle.solvers.proofs.Good.{Good, good}
 use Rattle.solvers.proofs.Questions.{Asks, Fits, stateFor, stateAt}
 use Rattle.solvers.proofs.PlacedBook.{term-placed, program-placed}
 use Rattle.stack_rule.proofs.GrownRule.{standing-grown, standing-unmarked, goal-state-grown, goal-unmarked, question-commands-grown, asked-levels-grown, node-levels-grown, move-commands-grown}
-
--- ---- growth is an order
-pub extends-refl : (p : Program) → Extends p p
-extends-refl p =
-    record {
-      same-axioms = refl;
-      new-literals = [];
-      more-literals = sym (append-nil (p .literals));
-      new-contexts = [];
-      more-contexts = sym (append-nil (p .contexts));
-    }
-
-pub extends-trans : {p q r : Program} → Extends p q → Extends q r → Extends p r
-extends-trans {p} x y =
-    record {
-      same-axioms = y .same-axioms ∙ x .same-axioms;
-      new-literals = x .new-literals ++ y .new-literals;
-      more-literals =
-          y .more-literals ∙ ap (λ (l : List (Option Literal)). l ++ y .new-literals) (x .more-literals)
-          ∙ append-assoc (p .literals) (x .new-literals) (y .new-literals);
-      new-contexts = x .new-contexts ++ y .new-contexts;
-      more-contexts =
-          y .more-contexts ∙ ap (λ (l : List Context). l ++ y .new-contexts) (x .more-contexts)
-          ∙ append-assoc (p .contexts) (x .new-contexts) (y .new-contexts);
-    }
-
-pub grows-refl : (b : Book) → bookTest b ≡ accepted tt → Grows b b
-grows-refl b ok = record { before = ok; after = ok; extends = extends-refl (program b); kept = λ t l. refl }
 
 module _ {b c : Book} (g : Grows b c) where
   G : Good (program b)
@@ -64,19 +32,6 @@ module _ {b c : Book} (g : Grows b c) where
 
   P : PlacedProgram (program b)
   P = program-placed b (promise b (g .before))
-
-  -- ---- no count is smaller
-  pub terms-grew : size b terms ≤ size c terms
-  terms-grew =
-      let e : length (program c .literals) ≡ length (program b .literals) + length (g .extends .new-literals) =
-      ap length (g .extends .more-literals) ∙ length-append (program b .literals) (g .extends .new-literals) in
-      omega (arith, literals-length b, literals-length c)
-
-  pub contexts-grew : size b contexts ≤ size c contexts
-  contexts-grew =
-      let e : length (program c .contexts) ≡ length (program b .contexts) + length (g .extends .new-contexts) =
-      ap length (g .extends .more-contexts) ∙ length-append (program b .contexts) (g .extends .new-contexts) in
-      omega (arith, contexts-length b, contexts-length c)
 
   inside : {n : ℕ} → n ≤ size b contexts → n ≤ length (program b .contexts)
   inside i = omega (arith, contexts-length b)
@@ -132,13 +87,13 @@ module _ {b c : Book} (g : Grows b c) where
 
     asks-for : (o : Owed) → Asks b w o → Asks c w o
     asks-for Nothing a = a
-    asks-for Reply a = (omega (arith, a .0, terms-grew), ap (λ (s : LevelState). s .missing) (goal-kept (w .node) (f .inside) (w .goal) (a .0)) ∙ a .1)
-    asks-for Model a = (omega (arith, a .0, terms-grew), ap (λ (s : LevelState). s .missing) (goal-kept (w .node) (f .inside) (w .goal) (a .0)) ∙ a .1)
+    asks-for Reply a = (omega (arith, a .0, terms-grew g), ap (λ (s : LevelState). s .missing) (goal-kept (w .node) (f .inside) (w .goal) (a .0)) ∙ a .1)
+    asks-for Model a = (omega (arith, a .0, terms-grew g), ap (λ (s : LevelState). s .missing) (goal-kept (w .node) (f .inside) (w .goal) (a .0)) ∙ a .1)
 
     pub fits-kept : Fits c w
     fits-kept =
         record {
-          inside = omega (arith, f .inside, contexts-grew);
+          inside = omega (arith, f .inside, contexts-grew g);
           clear = ap (λ (s : LevelState). s .missing) (standing-kept (w .node) (f .inside)) ∙ f .clear;
           asks = asks-for (w .owed) (f .asks);
         }
@@ -162,12 +117,3 @@ module _ {b c : Book} (g : Grows b c) where
     pub state-unmarked : Unmarked (program b) (stateAt b w .levels)
     unfolding stateAt
     state-unmarked = unmarked-for (w .owed) (f .asks)
-
-pub grows-trans : {a b c : Book} → Grows a b → Grows b c → Grows a c
-grows-trans g h =
-    record {
-      before = g .before;
-      after = h .after;
-      extends = extends-trans (g .extends) (h .extends);
-      kept = λ t l. h .kept t (omega (arith, l, terms-grew g)) ∙ g .kept t l;
-    }

@@ -28,11 +28,12 @@ use Rattle.solvers.specs.Calls.{owes, goalFits, isSession, Host, fitting, reply
 use Rattle.solvers.specs.Rule.{standing, present, sessionAt}
 use Rattle.solvers.specs.ByBook.{moveByBook, askByBook, callByBook}
 use Rattle.book_growth.specs.Grows.{Grows}
+use Rattle.book_growth.proofs.Order.{terms-grew, contexts-grew}
 use Rattle.stack_rule.specs.Growth.{CallIn, SessionKept}
 use Rattle.solvers.proofs.Good.{good}
 use Rattle.solvers.proofs.Contexts.{set-fresh}
 use Rattle.solvers.proofs.ByBook.{by-book}
-use Rattle.stack_rule.proofs.GrownBook.{terms-grew, contexts-grew, standing-kept, moves-kept, goal-kept, questions-kept}
+use Rattle.stack_rule.proofs.GrownBook.{standing-kept, moves-kept, goal-kept, questions-kept}
 
 -- the test of a session, by what stands at its node
 unfoldable standsAt : Book → Session → LevelState → Bool
