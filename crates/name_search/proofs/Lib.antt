@@ -1,2 +1,3 @@
 mod Position
 pub mod Searching
+mod Probing

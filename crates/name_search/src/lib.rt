@@ -1,4 +1,4 @@
-// The search for a name by its text.
+// The search for a name by its text; and the name of a probe.
 ghost use mathlib.Core.Path.{_≡_};
 ghost use Prim.Native.Nat.{_<_};
 ghost use Rattle.basics.specs.Text.{same};
@@ -11,6 +11,11 @@ use book::field;
 use book::format::NAME_LENGTH;
 use book::format::NAMES;
 use book::name;
+
+mod probe;
+
+pub use probe::ProbeName;
+pub use probe::probe_name;
 
 // Name n has the text. Most names have another length, and their letters are not looked at.
 fn has_text(book: &[u8], n: usize, text: &[u8]) -> bool
