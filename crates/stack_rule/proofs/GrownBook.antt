@@ -81,9 +81,9 @@ module _ {b c : Book} (g : Grows b c) where
     unfolding mustLive
     live-kept = live-for (w .owed) (f .asks)
 
-    pub session-kept : sessionAt c w ≡ sessionAt b w
+    pub session-at-kept : sessionAt c w ≡ sessionAt b w
     unfolding sessionAt
-    session-kept = ap {B = Session} (λ (s : LevelState). session (w .node) (w .goal) (w .owed) (s .levels)) (standing-kept (w .node) (f .inside))
+    session-at-kept = ap {B = Session} (λ (s : LevelState). session (w .node) (w .goal) (w .owed) (s .levels)) (standing-kept (w .node) (f .inside))
 
     asks-for : (o : Owed) → Asks b w o → Asks c w o
     asks-for Nothing a = a

@@ -18,7 +18,7 @@ use Rattle.solvers.proofs.Questions.{Fits, Kept}
 use Rattle.solvers.proofs.Root.{rootPresent, G, T, fits-start}
 use Rattle.solvers.proofs.Steps.{step-kept}
 use Rattle.stack_rule.specs.Events.{Trace, after, start}
-use Rattle.stack_rule.proofs.GrownBook.{live-kept, session-kept, fits-kept}
+use Rattle.stack_rule.proofs.GrownBook.{live-kept, session-at-kept, fits-kept}
 
 pub record Holds (t : Trace) : Type 0 where
   pub tested : bookTest (t .book) ≡ accepted tt
@@ -67,6 +67,6 @@ holds-grown t g x =
       spelled = x .spelled;
       wholes = x .wholes;
       heard = x .heard ∙ ap live (sym (live-kept g (t .due) (x .fits)));
-      session = x .session ∙ sym (session-kept g (t .due) (x .fits));
+      session = x .session ∙ sym (session-at-kept g (t .due) (x .fits));
       fits = fits-kept g (t .due) (x .fits);
     }
