@@ -4,6 +4,7 @@ pub mod KeptTerms
 pub mod KeptProgram
 pub mod Added
 pub mod GrownProgram
+pub mod Order
 pub mod Written
 pub mod Within
 pub mod TwoParts

@@ -18,13 +18,12 @@ use Rattle.book_test.proofs.Promise.{promise}
 use Rattle.rsolver.specs.LevelState.{LevelState, fresh}
 use Rattle.solvers.specs.declared.Owed.the-variants.{Nothing}
 use Rattle.solvers.specs.Session.{freshSession, move}
-use Rattle.solvers.specs.Calls.{owes, isSession, Host, moveCall, moveTo, call}
+use Rattle.solvers.specs.Calls.{owes, isSession, Host, Enough, moveCall, moveTo, call}
 use Rattle.solvers.specs.Rule.{standing, present, sessionAt, said}
-use Rattle.solvers.specs.StackRule.{Enough}
 use Rattle.solvers.proofs.Good.{good}
 use Rattle.solvers.proofs.Standing.{missing-above}
 use Rattle.solvers.proofs.Questions.{arrives}
-use Rattle.solvers.proofs.Holds.{rootPresent, G, T, fits-start}
+use Rattle.solvers.proofs.Root.{rootPresent, G, T, fits-start}
 use Rattle.solvers.proofs.Straight.{roomFor, nobody, pass, pass-all, ready-ok, valid-start, owes-start, move-yes}
 use Rattle.nodes_test.specs.NodesTest.{couldMove}
 use Rattle.nodes_test.specs.Reach.{MovesIn, Reaches, FromRoot}

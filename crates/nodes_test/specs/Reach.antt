@@ -13,10 +13,8 @@ use Rattle.book.specs.Program.{Program, nodeAt}
 use Rattle.book.specs.Decode.{program}
 use Rattle.solvers.specs.declared.Session.{Session}
 use Rattle.solvers.specs.Session.{Written, freshSession}
-use Rattle.solvers.specs.Calls.{Host, Call, moveTo, call}
+use Rattle.solvers.specs.Calls.{Host, Enough, moveTo, call}
 use Rattle.solvers.specs.Image.{calledOnImage}
-use Rattle.solvers.specs.Rule.{run}
-use Rattle.solvers.specs.StackRule.{Enough}
 use Rattle.nodes_test.specs.NodesTest.{couldMove, firstFailing}
 
 -- a fresh session's move to the node is accepted from every host that lends this room, and scratch enough
@@ -34,10 +32,8 @@ pub record FromRoot (b : Book) : Type 0 where
   pub root : couldMove (program b) 0 ≡ true
   pub child : (node : ℕ) → couldMove (program b) (nodeAt (program b) (suc node) .parent) ≡ false → couldMove (program b) (suc node) ≡ false
 
--- of a list that passed: no move to a node of it meets 9, whatever calls came before it, and whatever the host lends
+-- of a list that passed: no move to a node of it meets 9, on any session or image at all, and whatever the host lends
 pub record Never9 (b : Book) (nodes : List ℕ) : Type 0 where
-  pub after : (cs : List Call) (h : Host) (n : ℕ) → member n nodes ≡ true → ¬ (call b (run b cs .now) (moveTo h n) ≡ refused 9)
-  -- nor on any session or image at all
   pub session : (s : Session) (h : Host) (n : ℕ) → member n nodes ≡ true → ¬ (call b s (moveTo h n) ≡ refused 9)
   pub image : (image : List ℕ) (h : Host) (n : ℕ) → member n nodes ≡ true → ¬ (calledOnImage b image (moveTo h n) .answer ≡ refused 9)
 

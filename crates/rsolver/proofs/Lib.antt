@@ -9,6 +9,9 @@ pub mod Sets
 pub mod AgreeLists
 pub mod Agree
 pub mod AgreeWalk
+pub mod Unmarked
+pub mod ExtendsWalk
+pub mod AgreeExtends
 pub mod AgreeContext
 pub mod Contracts
 pub mod ContractsWalk

@@ -23,7 +23,7 @@ use Rattle.solvers.specs.declared.Session.{Session}
 use Rattle.solvers.specs.Session.{Written, Proved, textOf, closed, isUnsat, replied, giveReply}
 use Rattle.solvers.specs.Calls.{owes, isSession, reasonOf, fitting, askFor, replyWith, call, askCall, replyCall}
 use Rattle.solvers.specs.Rule.{Present, present, next, sessionAt}
-use Rattle.solvers.proofs.Holds.{G, T}
+use Rattle.solvers.proofs.Root.{G, T}
 use Rattle.solvers.proofs.Questions.{Fits, Kept, owes-nothing, is-session}
 use Rattle.solvers.proofs.Steps.{step-kept}
 use Rattle.solvers.proofs.ByBook.{known}

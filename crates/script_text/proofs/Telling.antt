@@ -18,8 +18,8 @@ use Rattle.solvers.specs.Calls.{Host}
 use Rattle.solvers.specs.declared.Answer.{Answer}
 use Rattle.solvers.specs.declared.Answer.the-variants as answer
 use Rattle.solvers.specs.Left.{answerValue, values, valuesBy}
-use Rattle.solvers.specs.HostRun.{textLength}
-use Rattle.solvers.proofs.HostRun.{FitsIn, by-length}
+use Rattle.solvers.specs.Taken.{textLength}
+use Rattle.solvers.proofs.Taken.{FitsIn, by-length}
 use Rattle.script_text.specs.Script.{textSize, stopped, refusedLine, told}
 use Rattle.script_text.specs.Turned.{Shows, Tells}
 

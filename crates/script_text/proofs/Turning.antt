@@ -16,7 +16,7 @@ use Rattle.solvers.specs.Session.{Written, textOf}
 use Rattle.solvers.specs.Calls.{Host, fitting, Call, moveTo, askFor, replyWith, hostOf, call, moveCall, askCall, replyCall}
 use Rattle.solvers.specs.Left.{Values, answerValue, values, sessionAfter, left, called}
 use Rattle.solvers.specs.Returned.{lent, Returned}
-use Rattle.solvers.proofs.HostRun.{call-fits}
+use Rattle.solvers.proofs.Taken.{call-fits}
 use Rattle.script_text.specs.declared.answers.Asked.{Asked}
 use Rattle.script_text.specs.declared.answers.Turn.{Turn}
 use Rattle.script_text.specs.Script.{textSize, stopped, stopping, moving, asking, desk, told, Printed, reply, answered, turn}

@@ -10,7 +10,7 @@ use Rattle.basics.specs.Text.{Text, if_then_else_}
 use Rattle.book.specs.Book.{Book}
 use Rattle.solvers.specs.declared.Session.{Session}
 use Rattle.solvers.specs.Left.{Values, sessionAfter}
-use Rattle.solvers.specs.HostRun.{textLength}
+use Rattle.solvers.specs.Taken.{textLength}
 use Rattle.script_text.specs.declared.answers.Turn.{Turn}
 use Rattle.script_text.specs.declared.reading.Wanted.{Wanted}
 use Rattle.script_text.specs.Script.{textSize, callSize, refusedLine, Shape, moving, asking, stopping, told, reply, Printed}

@@ -8,7 +8,7 @@ pub mod Questions
 pub mod Steps
 pub mod Heights
 pub mod BadBook
-pub mod Holds
+pub mod Root
 pub mod Straight
 pub mod Shared
 pub mod ByBook
@@ -18,9 +18,8 @@ pub mod BehindProgram
 pub mod BehindLevels
 pub mod BehindBodies
 pub mod Image
-pub mod HostRun
+pub mod Taken
 pub mod PlacedBook
 pub mod Bodies
-pub mod BodiesState
-pub mod Theorem
+pub mod NoFallback
 pub mod Returned

@@ -12,7 +12,7 @@ use Rattle.basics.specs.Text.{if_then_else_}
 use Rattle.basics.specs.Lists.{member}
 use Rattle.book.specs.Program.{Program, path, depth, shared}
 use Rattle.book.proofs.Paths.{Chain, chain, on-suffix}
-use Rattle.solvers.specs.StackRule.{Deepest}
+use Rattle.solvers.specs.NoFallback.{Deepest}
 use Rattle.solvers.proofs.Good.{Good}
 
 pub deepest : (B : Program) (x : ℕ) (p q : List ℕ) → Chain B p → member x p ≡ true → member x q ≡ true → length (path B x) ≤ shared p q

@@ -1,31 +1,26 @@
--- A fresh session, given scratch and buffer enough, is sent straight to a present that fits: the call is accepted.
+-- A fresh session, given scratch and buffer enough, is sent to a node or asked a goal that it can reach: the call is accepted.
 use Prim.Native.Nat.{ℕ, _≤_, _<_}
 use native.Mathlib.Omega.{arith}
-use mathlib.Core.Path.{_≡_, refl, sym, ap, _∙_, subst}
-use mathlib.Core.List.{List, [], _∷_, _++_}
+use mathlib.Core.Path.{_≡_, refl, ap, _∙_}
+use mathlib.Core.List.{[]}
 use mathlib.Core.Option.{none}
 use mathlib.Core.Bool.{Bool, true, false, not, _||_}
 use lib.Dec.{leb, ltb}
 use lib.ListN.{length}
 use borrow.Author.Tests.{le-ltb, lt-leb}
 use Rattle.basics.specs.Buffer.{scratchLeast}
-use Rattle.basics.specs.Outcome.{Outcome, accepted, refused, refuse, _>>_}
+use Rattle.basics.specs.Outcome.{Outcome, accepted, refuse, _>>_}
 use Rattle.book.specs.Book.{Book, terms, contexts, size}
-use Rattle.book.specs.Program.{path, pathUp}
 use Rattle.book.specs.Decode.{term, program}
 use Rattle.book_test.specs.BookTest.{bookTest, ready}
-use Rattle.smt_engines.specs.Command.{Command, script}
-use Rattle.smt_engines.specs.Reader.{live, read}
-use Rattle.rsolver.specs.LevelState.{LevelState, fresh}
-use Rattle.solvers.specs.declared.Owed.{Owed}
-use Rattle.solvers.specs.declared.Owed.the-variants.{Nothing, Reply, Model}
-use Rattle.solvers.specs.declared.Session.{Session}
-use Rattle.solvers.specs.Session.{Written, textOf, freshSession, moved, asked, move, ask}
-use Rattle.solvers.specs.Calls.{owes, isSession, Host, reasonOf, fitting, moveCall, askCall, Call, moveTo, askFor, call}
-use Rattle.solvers.specs.Rule.{standing, levelsFor, goalLevels, goalState, moveCommands, questionCommands, Present, present, next, nodeLevels, mustLive, sessionAt, said, Trace, after, runFrom, start, run, straightTo, straight}
-use Rattle.solvers.specs.StackRule.{Same, Enough}
+use Rattle.smt_engines.specs.Command.{script}
+use Rattle.rsolver.specs.LevelState.{LevelState}
+use Rattle.solvers.specs.declared.Owed.the-variants.{Nothing}
+use Rattle.solvers.specs.Session.{Written, textOf, moved, asked, move, ask}
+use Rattle.solvers.specs.Calls.{owes, isSession, Host, Enough, reasonOf, fitting, moveCall, askCall, Call, moveTo, askFor, call}
+use Rattle.solvers.specs.Rule.{goalState, present, sessionAt, said}
 use Rattle.solvers.proofs.Questions.{Fits, denial-missing, is-session, arrives, asked-at}
-use Rattle.solvers.proofs.Holds.{rootPresent, G, T, fits-start, holds, reads}
+use Rattle.solvers.proofs.Root.{rootPresent, G, T, fits-start}
 
 pub pass : {A : Type 0} (k : ℕ) (x : Bool) (rest : Outcome A) → x ≡ false → refuse k x >> rest ≡ rest
 unfolding refuse _>>_
@@ -80,7 +75,7 @@ module _ (b : Book) (ok : bookTest b ≡ accepted tt) where
       ∙ pass 9 (moved p s n .missing) _ (ap (λ (x : LevelState). x .missing) A ∙ f .clear)
       ∙ fits-room h y (unfold move in refl) room
 
-  ask-yes : (h : Host) (n t : ℕ) → n ≤ size b contexts → t < size b terms → goalState (program b) n (term b t) .missing ≡ false
+  pub ask-yes : (h : Host) (n t : ℕ) → n ≤ size b contexts → t < size b terms → goalState (program b) n (term b t) .missing ≡ false
       → Enough (roomFor b (askFor h n t)) h → Takes b (askFor h n t) (ask (program b) (sessionAt b rootPresent) n t (term b t))
   unfolding call askCall
   ask-yes h n t i l g k =
@@ -99,70 +94,5 @@ module _ (b : Book) (ok : bookTest b ≡ accepted tt) where
       (ap (λ (x : LevelState). x .missing) A ∙ denial-missing p (term b t) (goalState p n (term b t)) ∙ g)
       ∙ fits-room h y (unfold ask in refl) room
 
-  straight-yes : (h : Host) (n t : ℕ) (o : Owed) → Fits b (present n t o) → Enough (roomFor b (straightTo o h n t)) h
-      → (y : Written) × Takes b (straightTo o h n t) y
-  unfolding straightTo present
-  straight-yes h n t Nothing f k = (_, move-yes h n (unfold present in record { inside = f .inside; clear = f .clear; asks = refl }) k)
-  straight-yes h n t Reply f k = (_, ask-yes h n t (f .inside) (f .asks .0) (f .asks .1) k)
-  straight-yes h n t Model f k = (_, ask-yes h n t (f .inside) (f .asks .0) (f .asks .1) k)
-
-  -- it comes to the same levels
-  same-live : (h : Host) (n t : ℕ) (o : Owed) → mustLive b (next rootPresent (straightTo o h n t)) ≡ mustLive b (present n t o)
-  unfolding straightTo next mustLive levelsFor goalLevels present
-  same-live h n t Nothing = refl
-  same-live h n t Reply = refl
-  same-live h n t Model = refl
-
-  run-one : (c : Call) (y : Written) → Takes b c y → run b (c ∷ []) .due ≡ next rootPresent c
-  unfolding run start runFrom after sessionAt freshSession standing fresh path pathUp rootPresent present
-  run-one c y e = rw e
-
-  -- what is said does not hang on the host
-  room-same : (h k : Host) (n t : ℕ) (o : Owed) → roomFor b (straightTo o h n t) ≡ roomFor b (straightTo o k n t)
-  unfolding straightTo said roomFor
-  room-same h k n t Nothing = refl
-  room-same h k n t Reply = refl
-  room-same h k n t Model = refl
-
   pub nobody : Host
   nobody = record { scratch = []; text = []; reason = [] }
-
-  straight-due : (w : Present) → Fits b w → (h : Host) → Enough (roomFor b (straight nobody w)) h
-      → run b (straight h w ∷ []) .due ≡ next rootPresent (straight h w)
-  unfolding straight present
-  straight-due w f h k =
-      let n = w .node in
-      let t = w .goal in
-      let o = w .owed in
-      let y = straight-yes h n t o f (rw (room-same h nobody n t o) k) in
-      run-one (straightTo o h n t) (y .0) (y .1)
-
-  same-node : (h : Host) (n t : ℕ) (o : Owed) → next rootPresent (straightTo o h n t) .node ≡ n
-  unfolding straightTo next present
-  same-node h n t Nothing = refl
-  same-node h n t Reply = refl
-  same-node h n t Model = refl
-
-  pub straight-same : (cs : List Call) (h : Host) → Enough (roomFor b (straight nobody (run b cs .due))) h
-      → Same (run b cs) (run b (straight h (run b cs .due) ∷ []))
-  unfolding straight present sessionAt
-  straight-same cs h k =
-      let w = run b cs .due in
-      let c = straight h w in
-      let d = straight-due w (holds b ok cs .fits) h k in
-      let node : run b (c ∷ []) .due .node ≡ w .node = ap (λ (z : Present). z .node) d ∙ same-node h (w .node) (w .goal) (w .owed) in
-      let now = holds b ok cs .session in
-      let then = holds b ok (c ∷ []) .session in
-      record {
-        live = reads b ok cs ∙ ap live (sym (ap (mustLive b) d ∙ same-live h (w .node) (w .goal) (w .owed))) ∙ sym (reads b ok (c ∷ []));
-        node = ap (λ (s : Session). s .node) now ∙ sym (ap (λ (s : Session). s .node) then ∙ node);
-        levels =
-            ap (λ (s : Session). s .levels) now
-            ∙ sym (ap (λ (s : Session). s .levels) then ∙ ap (λ (n : ℕ). standing (program b) (path (program b) n) .levels) node);
-      }
-
-  pub moved-there : (n : ℕ) → Fits b (present n 0 Nothing) → (h : Host) → Enough (roomFor b (moveTo nobody n)) h
-      → read (run b (moveTo h n ∷ []) .text) ≡ live (nodeLevels b n)
-  unfolding mustLive levelsFor nodeLevels next present
-  moved-there n f h k =
-      reads b ok (moveTo h n ∷ []) ∙ ap (λ (w : Present). live (mustLive b w)) (run-one (moveTo h n) _ (move-yes h n f (unfold roomFor said in k)))

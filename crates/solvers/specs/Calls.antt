@@ -1,11 +1,12 @@
 -- The four calls of a session: which are refused, by the first line that holds, and what an accepted one gives.
-use Prim.Native.Nat.{ℕ}
+use Prim.Native.Nat.{ℕ, _≤_}
 use mathlib.Core.List.{List, []}
 use mathlib.Core.Bool.{Bool, true, false, not, _&&_, _||_}
 use mathlib.Core.Option.{Option, none, some}
 use lib.Dec.{eqb, leb, ltb}
 use lib.ListN.{length}
 use Rattle.basics.specs.Text.{Text, same}
+use Rattle.basics.specs.Buffer.{scratchLeast}
 use Rattle.basics.specs.Outcome.{Outcome, accepted, refuse, _>>_}
 use Rattle.book.specs.Book.{Book, terms, contexts, size}
 use Rattle.book.specs.Program.{Program}
@@ -47,6 +48,11 @@ pub record Host : Type 0 where
   pub scratch : List ℕ
   pub text : List ℕ
   pub reason : List ℕ
+
+-- the host lends scratch and text buffer enough
+pub record Enough (room : ℕ) (h : Host) : Type 0 where
+  pub scratch : scratchLeast ≤ length (h .scratch)
+  pub text : room ≤ length (h .text)
 
 unfoldable pub reasonOf : Option ProofResult → Text
 reasonOf none = []

@@ -1,5 +1,5 @@
 -- The lines that only make a definition total: the end of a fuel, and what is read behind the end of a list. Here each has anything in
--- its place. That nothing changes then, on a book that passes the test, is NoFallback (StackRule).
+-- its place. That nothing changes then, on a book that passes the test, is NoFallback.
 use Prim.Native.Nat.{ℕ, zero, suc, _<_}
 use mathlib.Core.Path.{_≡_}
 use mathlib.Core.Bool.{Bool, false, not, _&&_, _||_}

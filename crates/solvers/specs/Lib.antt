@@ -2,10 +2,10 @@ pub mod Session
 pub mod Calls
 pub mod Left
 pub mod Image
-pub mod HostRun
+pub mod Taken
 pub mod Rule
 pub mod Bodies
 pub mod Fallbacks
-pub mod StackRule
+pub mod NoFallback
 pub mod ByBook
 pub mod Returned

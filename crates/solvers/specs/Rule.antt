@@ -1,11 +1,9 @@
--- What the book alone gives for a node and a question, what the accepted calls alone give for the present, and a list of calls.
+-- What the book alone gives for a node and a question, and what the accepted calls alone give for the present.
 -- A path is written from the node up to the root, the root left out.
 use Prim.Native.Nat.{ℕ, zero, suc, _-_}
 use mathlib.Core.Bool.{Bool, true, false}
 use mathlib.Core.List.{List, [], _∷_, _++_, reverse}
 use lib.ListN.{length, replicate, take}
-use Rattle.basics.specs.Text.{Text}
-use Rattle.basics.specs.Outcome.{Outcome, refused, accepted}
 use Rattle.book.specs.RExpr.{RExpr}
 use Rattle.book.specs.Book.{Book}
 use Rattle.book.specs.Program.{Program, nodeAt, path, depth, shared}
@@ -17,8 +15,8 @@ use Rattle.rsolver.specs.REngine.{assume, assumeNot, declareNewSymbols, enter}
 use Rattle.solvers.specs.declared.Owed.{Owed}
 use Rattle.solvers.specs.declared.Owed.the-variants.{Nothing, Reply, Model}
 use Rattle.solvers.specs.declared.Session.{Session}
-use Rattle.solvers.specs.Session.{Written, textOf, session, freshSession, isUnsat}
-use Rattle.solvers.specs.Calls.{Host, Call, moveTo, askFor, replyWith, modelWith, call}
+use Rattle.solvers.specs.Session.{session, isUnsat}
+use Rattle.solvers.specs.Calls.{Call, moveTo, askFor, replyWith, modelWith}
 use Rattle.smt_engines.specs.Reader.{Stack, first, over, lines}
 
 -- ---- WHAT THE BOOK ALONE GIVES
@@ -125,32 +123,3 @@ said b w (askFor h n t) = moveCommands (program b) (w .node) n ++ questionComman
 said b w (replyWith h false error) = Pop ∷ Pop ∷ []
 said b w (replyWith h true reply) = replyCommands (isUnsat reply)
 said b w (modelWith h reply model) = Pop ∷ Pop ∷ []
-
--- ---- A LIST OF CALLS on one book from a fresh session: each gets the session that the last one returned or left
-pub record Trace : Type 0 where
-  pub now : Session
-  pub text : Text  -- the accepted calls' texts, in order
-  pub due : Present
-
-unfoldable pub after : Trace → Call → Outcome Written → Trace
-after t c (refused k) = t
-after t c (accepted w) = record { now = w .session; text = t .text ++ textOf w; due = next (t .due) c }
-
-unfoldable pub runFrom : Book → Trace → List Call → Trace
-runFrom b t [] = t
-runFrom b t (c ∷ cs) = runFrom b (after t c (call b (t .now) c)) cs
-
-unfoldable pub start : Trace
-start = record { now = freshSession; text = []; due = present 0 0 Nothing }
-
-unfoldable pub run : Book → List Call → Trace
-run b cs = runFrom b start cs
-
--- the call that brings a fresh session straight to the present
-unfoldable pub straightTo : Owed → Host → ℕ → ℕ → Call
-straightTo Nothing h n t = moveTo h n
-straightTo Reply h n t = askFor h n t
-straightTo Model h n t = askFor h n t
-
-unfoldable pub straight : Host → Present → Call
-straight h w = straightTo (w .owed) h (w .node) (w .goal)

@@ -1,4 +1,4 @@
-// Solvers.dfy: the session. The definitions and the stack rule are in specs/; the calls are in the crates session_test, moves and replies.
+// Solvers.dfy: the session. The definitions are in specs/; the calls are in the crates session_test, moves and replies, the stack rule in stack_rule.
 ghost use mathlib.Core.Path.{_≡_};
 ghost use Rattle.solvers.specs.Session.{freshSession};
 use book::Refusal;

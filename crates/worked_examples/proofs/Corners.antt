@@ -19,10 +19,9 @@ use Rattle.solvers.specs.declared.Session.{Session}
 use Rattle.solvers.specs.Session.{session, freshSession}
 use Rattle.solvers.specs.Calls.{Call, moveTo, askFor, replyWith}
 use Rattle.solvers.specs.Left.{called}
-use Rattle.solvers.specs.Rule.{run}
 use Rattle.worked_examples.proofs.Everything.{everything}
 use Rattle.worked_examples.proofs.Books.{books, small, none, shapes, literals, explained, cycle, declaring}
-use Rattle.worked_examples.proofs.Hosts.{hosts, dirty, clean, blank, host, shows, hides, writes, proves, refuses, levels, Seen, test, print, call, texts}
+use Rattle.worked_examples.proofs.Hosts.{hosts, dirty, clean, blank, host, shows, hides, writes, proves, refuses, levels, Seen, test, print, call, texts, ran}
 
 -- ---- LAYOUTS
 -- a term of every kind, with newlines and an indent, or flat
@@ -161,11 +160,11 @@ limits-hold = refl
 -- ---- WHAT IS DECLARED, AND WHICH AXIOMS ARE SENT
 -- moves from a fresh session, one after the other: all their text
 moves : Book → List ℕ → Seen
-moves b nodes = texts (run b (map (moveTo (host 300 0)) nodes) .text)
+moves b nodes = texts (ran b (map (moveTo (host 300 0)) nodes) .text)
 
 -- what a move leaves after others, in a buffer of 120 bytes
 after : Book → List ℕ → ℕ → Seen
-after b nodes node = call (called b (run b (map (moveTo (host 300 0)) nodes) .now) (moveTo (host 120 0) node))
+after b nodes node = call (called b (ran b (map (moveTo (host 300 0)) nodes) .now) (moveTo (host 120 0) node))
 
 -- the axiom's term is missing; only f lists it
 missing : Book
@@ -205,7 +204,7 @@ declared =
     ∷ (moves literals (5 ∷ []), texts (ascii "(push 1)\n(assert 0)\n"))
     -- an axiom explains f and g, g comes later: never sent where only f lists it, sent where g does too or g comes first. R 49
     ∷ (
-      texts (run (explained 2 0) (moveTo (host 99 0) 1 ∷ askFor (host 99 0) 1 8 ∷ []) .text),
+      texts (ran (explained 2 0) (moveTo (host 99 0) 1 ∷ askFor (host 99 0) 1 8 ∷ []) .text),
       texts (ascii "(push 1)\n(declare-fun f () Int)\n(declare-fun g () Int)\n(assert (< f g))\n(push 1)\n(push 1)\n(assert (not (< g f)))\n(check-sat)\n"),
     )
     ∷ (
@@ -247,7 +246,7 @@ declared =
     ∷ (moves declaring (5 ∷ []), texts (ascii "(push 1)\n(declare-sort U 0)\n(declare-fun v () U)\n(assert (let ((v v)) v))\n"))
     -- its body asked alone: v is free. R 14
     ∷ (
-      texts (run declaring (askFor (host 99 0) 0 7 ∷ []) .text),
+      texts (ran declaring (askFor (host 99 0) 0 7 ∷ []) .text),
       texts (ascii "(push 1)\n(declare-sort U 0)\n(declare-fun v () U)\n(push 1)\n(assert (not v))\n(check-sat)\n"),
     )
     -- empty names are raw where they are declared, and () elsewhere. R 47

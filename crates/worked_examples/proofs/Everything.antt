@@ -35,11 +35,13 @@ use Rattle.solvers.specs.Calls.{owes, goalFits, isSession, reasonOf, fitting, m
 use Rattle.solvers.specs.Left.{answerValue, valuesBy, values, reason, sessionAfter, left, called}
 use Rattle.basics.specs.Bytes.{bytes4, row, rows}
 use Rattle.solvers.specs.Image.{owedNumber, owedOf, writeImage, noSession, isImage, readImage, imageAfter, calledOnImage}
-use Rattle.solvers.specs.Rule.{standing, settle, nodeCommands, levelsOf, goalState, goalCommands, denialCommands, goalLevels, levelsFor, entering, moveCommands, questionCommands, present, nextReply, next, nodeLevels, mustLive, sessionAt, replyCommands, said, after, runFrom, start, run, straightTo, straight}
+use Rattle.solvers.specs.Rule.{standing, settle, nodeCommands, levelsOf, goalState, goalCommands, denialCommands, goalLevels, levelsFor, entering, moveCommands, questionCommands, present, nextReply, next, nodeLevels, mustLive, sessionAt, replyCommands, said}
 use Rattle.solvers.specs.ByBook.{moveByBook, askByBook, callByBook}
 use Rattle.number_lists.specs.Numbers.{numbers}
 use Rattle.nodes_test.specs.NodesTest.{couldMove, firstFailing, allInside, nodesIn, nodesTested, nodesTestedValue, nodesTestCall}
-use Rattle.solvers.specs.Bodies.{onReply, doCall, doIfAccepted, doFrom, doAll}
+use Rattle.solvers.specs.Bodies.{onReply, doCall}
+use Rattle.stack_rule.specs.Events.{after, happens, runFrom, start, run, straightTo, straight}
+use Rattle.stack_rule.specs.Bodies.{doIfAccepted, doEvent, doFrom, doAll}
 
 -- the book, and its test
 unfoldable pub testing : Unit {0}
@@ -61,9 +63,9 @@ unfoldable pub listing : Unit {0}
 unfolding COMMA boundVarToString boundVarsToString customLiteralToString quantifierOpening rexprToString rexprStrings patternsToString rexprListToString listingLine printContext printProofObligation listingText listingCall
 listing = tt
 
--- the session's calls, lists of them, and the reader of their text
+-- the session's calls, lists of events, and the reader of their text
 unfoldable pub calling : Unit {0}
-unfolding textOf freshSession resume moved asked move ask closed isUnsat replied giveReply giveModel owes goalFits isSession reasonOf fitting moveCall askCall replyCall modelCall hostOf call answerValue valuesBy values reason sessionAfter left called bytes4 owedNumber owedOf writeImage noSession isImage readImage imageAfter calledOnImage shared standing settle nodeCommands levelsOf goalState goalCommands denialCommands goalLevels levelsFor entering moveCommands questionCommands present nextReply next nodeLevels mustLive sessionAt replyCommands said after runFrom start run straightTo straight moveByBook askByBook callByBook onReply doCall doIfAccepted doFrom doAll glue cut lines kind join dropped hearKind hear hearAll read
+unfolding textOf freshSession resume moved asked move ask closed isUnsat replied giveReply giveModel owes goalFits isSession reasonOf fitting moveCall askCall replyCall modelCall hostOf call answerValue valuesBy values reason sessionAfter left called bytes4 owedNumber owedOf writeImage noSession isImage readImage imageAfter calledOnImage shared standing settle nodeCommands levelsOf goalState goalCommands denialCommands goalLevels levelsFor entering moveCommands questionCommands present nextReply next nodeLevels mustLive sessionAt replyCommands said after happens runFrom start run straightTo straight moveByBook askByBook callByBook onReply doCall doIfAccepted doEvent doFrom doAll glue cut lines kind join dropped hearKind hear hearAll read
 calling = tt
 
 -- the search for a literal

@@ -13,10 +13,9 @@ use Rattle.solvers.specs.declared.Session.{Session}
 use Rattle.solvers.specs.Session.{session, freshSession}
 use Rattle.solvers.specs.Calls.{Call, moveTo, askFor, replyWith}
 use Rattle.solvers.specs.Left.{called}
-use Rattle.solvers.specs.Rule.{run}
 use Rattle.worked_examples.proofs.Everything.{everything}
 use Rattle.worked_examples.proofs.Books.{books, sample, small}
-use Rattle.worked_examples.proofs.Hosts.{hosts, dirty, blank, host, shows, writes, proves, levels, Seen, print, call, texts}
+use Rattle.worked_examples.proofs.Hosts.{hosts, dirty, blank, host, shows, writes, proves, levels, Seen, print, call, texts, ran}
 
 -- a term of the small book, in a buffer of 40 bytes
 printed : ℕ → SExprPrintConfig → Seen
@@ -27,7 +26,7 @@ withNewlines = record { newlines = true; indent = 0 }
 
 -- a call, after others on the same book from a fresh session
 after : Book → List Call → Call → Seen
-after b before c = call (called b (run b before .now) c)
+after b before c = call (called b (ran b before .now) c)
 
 -- document 01's calls, and the reply unsat to its ask
 move2 : Call
@@ -101,7 +100,7 @@ table =
     ∷ (after sample (move2 ∷ move3 ∷ ask3 ∷ []) unsat, call (proves 200 9 at3 (ascii "(pop 1)\n(pop 1)\n")))
     -- and its text whole
     ∷ (
-      texts (run sample (move2 ∷ move3 ∷ ask3 ∷ unsat ∷ []) .text),
+      texts (ran sample (move2 ∷ move3 ∷ ask3 ∷ unsat ∷ []) .text),
       texts (ascii "(push 1)\n(declare-fun x () Int)\n(assert (< 0 x))\n(push 1)\n(declare-fun y () Int)\n(declare-fun f (Int) Int)\n(assert (forall ((z Int)) (= (f z) z)))\n(assert (= y (f x)))\n(pop 1)\n(push 1)\n(assert (< x 9))\n(push 1)\n(declare-fun f (Int) Int)\n(assert (forall ((z Int)) (= (f z) z)))\n(declare-fun y () Int)\n(push 1)\n(assert (not (< 0 (f y))))\n(check-sat)\n(pop 1)\n(pop 1)\n"),
     )
     ∷ []

@@ -1,16 +1,18 @@
 -- What the host lends to a call, and what it finds afterwards.
 use Prim.Native.Nat.{ℕ, _-_}
-use mathlib.Core.List.{List, [], _∷_, _++_}
+use mathlib.Core.List.{List, [], _∷_, _++_, map}
 use lib.ListN.{length, replicate, set}
 use Rattle.basics.specs.Text.{Text}
 use Rattle.basics.specs.Outcome.{refused, accepted}
 use Rattle.basics.specs.Buffer.{scratchLeast}
+use Rattle.book.specs.Book.{Book}
 use Rattle.book_test.specs.BookTest.{BookTested}
 use Rattle.solver_expr.specs.Print.{Printed}
 use Rattle.rsolver.specs.LevelState.{levelCount}
 use Rattle.solvers.specs.declared.Session.{Session}
-use Rattle.solvers.specs.Calls.{Host}
+use Rattle.solvers.specs.Calls.{Host, Call}
 use Rattle.solvers.specs.Left.{Left, written, proved, unproved}
+use Rattle.stack_rule.specs.Events.{calls, Trace, run}
 
 -- the least scratch, not zero before the call and zero after it
 unfoldable pub dirty : List ℕ
@@ -77,6 +79,10 @@ unfoldable pub levels : List (ℕ × ℕ) → List ℕ
 levels [] = replicate levelCount 0
 levels (l ∷ ls) = set (levels ls) (l .0) (l .1)
 
+-- a list of calls from a fresh session, on a book that does not grow
+unfoldable pub ran : Book → List Call → Trace
+ran b cs = run b (map calls cs)
+
 -- what a row of a table shows: a book test, a print or a trace, a session's call, or the texts of a list of calls
 pub data Seen : Type 0 where
   test : BookTested → Seen
@@ -85,5 +91,5 @@ pub data Seen : Type 0 where
   texts : Text → Seen
 
 unfoldable pub hosts : Unit {0}
-unfolding dirty clean blank filled host shows hides writes proves fails refuses levels
+unfolding dirty clean blank filled host shows hides writes proves fails refuses levels ran
 hosts = tt

@@ -16,11 +16,12 @@ use Rattle.solvers.specs.declared.Session.{Session}
 use Rattle.solvers.specs.Session.{session, freshSession}
 use Rattle.solvers.specs.Calls.{Call, moveTo, askFor, replyWith, modelWith}
 use Rattle.solvers.specs.Left.{Values, written, unproved, called}
-use Rattle.solvers.specs.Rule.{Trace, run, present, mustLive, straight}
-use Rattle.solvers.specs.Bodies.{doAll}
+use Rattle.solvers.specs.Rule.{present, mustLive}
+use Rattle.stack_rule.specs.Events.{calls, Trace, straight}
+use Rattle.stack_rule.specs.Bodies.{doAll}
 use Rattle.worked_examples.proofs.Everything.{everything}
 use Rattle.worked_examples.proofs.Books.{books, sample}
-use Rattle.worked_examples.proofs.Hosts.{hosts, blank, host, levels}
+use Rattle.worked_examples.proofs.Hosts.{hosts, blank, host, levels, ran}
 
 -- ---- A LIST, AND THE SAME WITH REFUSED CALLS IN BETWEEN
 move : ℕ → Call
@@ -110,11 +111,12 @@ answered-hold = refl
 -- the refused calls change nothing: the session, the text and the present are those of the list without them, before the first accepted
 -- call, after the ask, and at the end
 noneSoFar : Trace
-noneSoFar = record { now = freshSession; text = []; due = present 0 0 Nothing }
+noneSoFar = record { book = sample; now = freshSession; text = []; due = present 0 0 Nothing }
 
 afterAsk : Trace
 afterAsk =
     record {
+      book = sample;
       now = session 3 18 Reply (levels ((constantPlaces + 0, 1) ∷ []));
       text = text2 ++ text3 ++ asked3;
       due = present 3 18 Reply;
@@ -123,6 +125,7 @@ afterAsk =
 atEnd : Trace
 atEnd =
     record {
+      book = sample;
       now = freshSession;
       text = text2 ++ text3 ++ asked3 ++ ascii "(get-model)\n(pop 1)\n(pop 1)\n" ++ asked2 ++ ascii "(pop 1)\n(pop 1)\n(pop 1)\n(pop 1)\n";
       due = present 0 0 Nothing;
@@ -131,12 +134,12 @@ atEnd =
 pub traces : List (Trace × Trace)
 unfolding everything books hosts move ask reply model failed good mixed text2 text3 asked3 asked2 noneSoFar afterAsk atEnd
 traces =
-    (run sample [], noneSoFar)
-    ∷ (run sample (take 3 mixed), noneSoFar)
-    ∷ (run sample (take 3 good), afterAsk)
-    ∷ (run sample (take 15 mixed), afterAsk)
-    ∷ (run sample good, atEnd)
-    ∷ (run sample mixed, atEnd)
+    (ran sample [], noneSoFar)
+    ∷ (ran sample (take 3 mixed), noneSoFar)
+    ∷ (ran sample (take 3 good), afterAsk)
+    ∷ (ran sample (take 15 mixed), afterAsk)
+    ∷ (ran sample good, atEnd)
+    ∷ (ran sample mixed, atEnd)
     ∷ []
 
 pub traces-hold : map (λ e. e .0) traces ≡ map (λ e. e .1) traces
@@ -146,13 +149,13 @@ traces-hold = refl
 -- ---- THE STACK RULE'S WORDS, after each call of the list
 -- what the reader has, what the book gives for the present, and what a fresh session leaves that is brought straight there
 heard : ℕ → Reader
-heard n = read (run sample (take n good) .text)
+heard n = read (ran sample (take n good) .text)
 
 given : ℕ → Reader
-given n = live (mustLive sample (run sample (take n good) .due))
+given n = live (mustLive sample (ran sample (take n good) .due))
 
 brought : ℕ → Reader
-brought n = read (run sample (straight (host 400 0) (run sample (take n good) .due) ∷ []) .text)
+brought n = read (ran sample (straight (host 400 0) (ran sample (take n good) .due) ∷ []) .text)
 
 root : Stack
 root = first []
@@ -218,7 +221,7 @@ live-hold = refl
 -- demand 2: the bodies on the state with sets, kept from call to call, send the same
 pub sent : List (Text × Text)
 unfolding everything books hosts move ask reply model failed good mixed text2 text3 asked3 asked2 atEnd
-sent = (script (doAll sample good .sent), atEnd .text) ∷ (script (doAll sample mixed .sent), atEnd .text) ∷ []
+sent = (script (doAll sample (map calls good) .sent), atEnd .text) ∷ (script (doAll sample (map calls mixed) .sent), atEnd .text) ∷ []
 
 pub sent-hold : map (λ e. e .0) sent ≡ map (λ e. e .1) sent
 unfolding sent

@@ -8,10 +8,9 @@ use Rattle.book.specs.Book.{Book}
 use Rattle.solver_expr.specs.SolverExpr.{SExprPrintConfig, flat}
 use Rattle.solver_expr.specs.Print.{printCall}
 use Rattle.solvers.specs.Calls.{askFor}
-use Rattle.solvers.specs.Rule.{run}
 use Rattle.worked_examples.proofs.Everything.{everything}
 use Rattle.worked_examples.proofs.Books.{books, written, small}
-use Rattle.worked_examples.proofs.Hosts.{hosts, dirty, blank, host, shows, Seen, print, texts}
+use Rattle.worked_examples.proofs.Hosts.{hosts, dirty, blank, host, shows, Seen, print, texts, ran}
 
 -- v and a constant called -5, both of Int; node 1 says term 13
 boxes : Book
@@ -86,7 +85,7 @@ negatives =
     )
     -- as a premise, and as the goal
     ∷ (
-      texts (run boxes (askFor (host 200 0) 1 2 ∷ []) .text),
+      texts (ran boxes (askFor (host 200 0) 1 2 ∷ []) .text),
       texts (ascii "(push 1)\n(declare-fun v () Int)\n(assert (+ (- 1) v (- 9223372036854775808)))\n(push 1)\n(push 1)\n(assert (not (- 1)))\n(check-sat)\n"),
     )
     -- the number of %tag is never negative

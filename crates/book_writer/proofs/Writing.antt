@@ -1,0 +1,82 @@
+-- An accepted call of the writer gives a book that grew, and the host takes it whole.
+use Prim.Native.Nat.{ℕ, _≤_}
+use native.Mathlib.Omega.{arith}
+use mathlib.Core.Path.{_≡_, refl, ap, _∙_, subst}
+use mathlib.Core.Bool.{true, not}
+use mathlib.Core.List.{List, [], _∷_, _++_}
+use lib.Dec.{ltb}
+use lib.ListN.{length, take, drop}
+use borrow.Author.Tests.{ltb-false, not-false}
+use Rattle.basics.specs.Outcome.{Outcome, refused, accepted, _>>_, mapOutcome}
+use Rattle.basics.specs.Buffer.{overlay, bufferAfter}
+use Rattle.basics.proofs.Laws.{overlay-fits}
+use Rattle.book.specs.Book.{Book}
+use Rattle.book_test.specs.BookTest.{bookTest, ready}
+use Rattle.book_test.proofs.Outcomes.{passed, ready-passed}
+use Rattle.book_growth.specs.Growth.{Addition, grown, growsWithin, Whole}
+use Rattle.book_growth.specs.Grows.{Grows}
+use Rattle.book_growth.proofs.GrownProgram.{grown-term, grown-program}
+use Rattle.book_writer.specs.Growths.{Growth, additionOf, numberOf, outside, handedRight}
+use Rattle.book_writer.specs.Writing.{Grown, grow, Lent, numbers, bookOf, grownLeft, outcomeOf, growCall, newest, write, tookBy, took}
+use Rattle.book_writer.proofs.Recorded.{addition-whole}
+
+-- an addition within the limits makes a book grow, if the new book passes the test
+pub grown-grows : (b : Book) (a : Addition) → bookTest b ≡ accepted tt → Whole a → growsWithin b a ≡ true → bookTest (grown b a) ≡ accepted tt → Grows b (grown b a)
+grown-grows b a ok w fits ok′ =
+    record { before = ok; after = ok′; extends = grown-program b a ok w fits; kept = grown-term b a ok w fits }
+
+passed-all : {A : Type 0} {a : A} (o : Outcome (Unit {0})) (rest : Outcome A) → (o >> rest) ≡ accepted a → (o ≡ accepted tt) × (rest ≡ accepted a)
+unfolding _>>_
+passed-all (refused k) rest e = let z : _≡_ {A = ℕ} 0 1 = cc in absurd (omega arith)
+passed-all (accepted tt) rest e = (refl, e)
+
+accepted-is : {A : Type 0} {x y : A} → accepted x ≡ accepted y → x ≡ y
+accepted-is e = cc
+
+-- what an accepted call tells
+pub record Passed (b : Book) (room : ℕ) (x : Grown) : Type 0 where
+  pub grows : Grows b (x .book)
+  pub fits : length (x .book) ≤ room
+
+pub grow-passed : (scratch : ℕ) (b : Book) (g : Growth) (room : ℕ) (x : Grown) → grow scratch b g room ≡ accepted x → Passed b room x
+unfolding grow
+grow-passed scratch b g room x e =
+    let a = additionOf b g in
+    let c = grown b a in
+    let r1 = passed-all (ready scratch b) _ e in
+    let r7 = passed 7 (outside b g) _ (r1 .1) in
+    let r3 = passed 3 (not (growsWithin b a)) _ (r7 .1) in
+    let r4 = passed 4 (not (handedRight g)) _ (r3 .1) in
+    let r6 = passed-all (bookTest c) _ (r4 .1) in
+    let r10 = passed 10 (ltb room (length c)) _ (r6 .1) in
+    let is : c ≡ x .book = ap (λ (z : Grown). z .book) (accepted-is (r10 .1)) in
+    let h : Grows b c =
+    grown-grows b a (ready-passed scratch b (r1 .0) .1) (addition-whole b g) (not-false (growsWithin b a) (r3 .0)) (r6 .0) in
+    record { grows = subst (Grows b) is h; fits = subst (λ (d : Book). length d ≤ room) is (ltb-false room (length c) (r10 .0)) }
+
+outcome-passed : (b : Book) (x : Lent) (y : Grown) → outcomeOf b x ≡ accepted y → Passed b (length (x .buffer)) y
+unfolding outcomeOf
+outcome-passed b x y e = grow-passed (length (x .scratch)) b (x .growth) (length (x .buffer)) y e
+
+grew : (b : Book) (x : Lent) (o : Outcome Grown) → outcomeOf b x ≡ o → (c : Book) → mapOutcome bookOf o ≡ accepted c → Grows b c
+unfolding mapOutcome bookOf newest
+grew b x (refused k) e c f = let z : _≡_ {A = ℕ} 0 1 = cc in absurd (omega arith)
+grew b x (accepted y) e c f = subst (Grows b) (ap (newest b) f) (outcome-passed b x y e .grows)
+
+pub write-grows : (b : Book) (x : Lent) (c : Book) → write b x ≡ accepted c → Grows b c
+unfolding write
+write-grows b x c e = grew b x (outcomeOf b x) refl c e
+
+take-front : (t u : List ℕ) → take (length t) (t ++ u) ≡ t
+take-front [] u = refl
+take-front (x ∷ t) u = ap {B = List ℕ} (λ r. x ∷ r) (take-front t u)
+
+takes : (b : Book) (x : Lent) (o : Outcome Grown) → outcomeOf b x ≡ o → took b (grownLeft o (x .buffer) (x .scratch)) ≡ newest b (mapOutcome bookOf o)
+unfolding took tookBy grownLeft mapOutcome bufferAfter numbers bookOf newest
+takes b x (refused k) e = refl
+takes b x (accepted y) e =
+    ap (take (length (y .book))) (overlay-fits (y .book) (x .buffer) (outcome-passed b x y e .fits)) ∙ take-front (y .book) (drop (length (y .book)) (x .buffer))
+
+pub took-newest : (b : Book) (x : Lent) → took b (growCall b x) ≡ newest b (write b x)
+unfolding growCall write
+took-newest b x = takes b x (outcomeOf b x) refl

@@ -1,0 +1,13 @@
+pub mod GrownPaths
+pub mod GrownRule
+pub mod GrownBook
+pub mod GrownCalls
+pub mod Holds
+pub mod Straight
+pub mod BadBook
+pub mod Bodies
+pub mod Sound
+pub mod BodiesState
+pub mod HostRun
+pub mod Theorem
+pub mod Growing
