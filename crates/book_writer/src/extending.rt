@@ -80,12 +80,12 @@ fn extend_untraced(
 }
 
 // A node with a trace.
-fn extend_traced(
-    book: &[u8],
+fn extend_traced<'a>(
+    book: &'a [u8],
     scratch: &mut [u8],
     parent: u32,
     term: u32,
-    trace: &[u8],
+    trace: &'a [u8],
     out: &mut [u8],
 ) -> Appended
     requires { ⌜ Ready (now book) (now scratch) ⌝ }
@@ -121,13 +121,13 @@ fn extend_traced(
     )
 }
 
-fn extend_in(
-    book: &[u8],
+fn extend_in<'a>(
+    book: &'a [u8],
     scratch: &mut [u8],
     parent: u32,
     term: u32,
     traced: bool,
-    trace: &[u8],
+    trace: &'a [u8],
     out: &mut [u8],
 ) -> Appended
     requires { ⌜ Ready (now book) (now scratch) ⌝ }
@@ -143,13 +143,13 @@ fn extend_in(
 }
 
 // Any book, scratch, numbers, trace and buffer are taken. `traced`: a trace is given.
-pub fn extend(
-    book: &[u8],
+pub fn extend<'a>(
+    book: &'a [u8],
     scratch: &mut [u8],
     parent: u32,
     term: u32,
     traced: bool,
-    trace: &[u8],
+    trace: &'a [u8],
     out: &mut [u8],
 ) -> Appended
     ensures { λ r. ⌜ (appendedValue r ≡ growCall (now (book .entry)) (lent (extend parent term (given traced (now (trace .entry)))) (now (scratch .entry)) (now (out .entry))) .answer) × (now (out .exit) ≡ growCall (now (book .entry)) (lent (extend parent term (given traced (now (trace .entry)))) (now (scratch .entry)) (now (out .entry))) .buffer) × (now (scratch .exit) ≡ growCall (now (book .entry)) (lent (extend parent term (given traced (now (trace .entry)))) (now (scratch .entry)) (now (out .entry))) .scratch) ⌝ }

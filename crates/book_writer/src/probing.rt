@@ -142,16 +142,16 @@ fn probe_rows(
 }
 
 // With the probe's name.
-fn record_as(
-    book: &[u8],
+fn record_as<'a>(
+    book: &'a [u8],
     scratch: &mut [u8],
-    probe: &[u8],
+    probe: &'a [u8],
     parent: u32,
     typ: u32,
     point: bool,
     term: u32,
     traced: bool,
-    trace: &[u8],
+    trace: &'a [u8],
     out: &mut [u8],
 ) -> Appended
     requires { ⌜ Ready (now book) (now scratch) × (length (now probe) ≤ 8) ⌝ }
@@ -202,15 +202,15 @@ fn record_as(
 }
 
 // Below a node of the book.
-fn record_below(
-    book: &[u8],
+fn record_below<'a>(
+    book: &'a [u8],
     scratch: &mut [u8],
     parent: u32,
     typ: u32,
     point: bool,
     term: u32,
     traced: bool,
-    trace: &[u8],
+    trace: &'a [u8],
     out: &mut [u8],
 ) -> Appended
     requires { ⌜ Ready (now book) (now scratch) × (parent ≤ size (now book) contexts) ⌝ }
@@ -233,14 +233,14 @@ fn record_below(
     )
 }
 
-fn record_in(
-    book: &[u8],
+fn record_in<'a>(
+    book: &'a [u8],
     scratch: &mut [u8],
     parent: u32,
     term: u32,
     typ: u32,
     traced: bool,
-    trace: &[u8],
+    trace: &'a [u8],
     out: &mut [u8],
 ) -> Appended
     requires { ⌜ Ready (now book) (now scratch) ⌝ }
@@ -253,14 +253,14 @@ fn record_in(
 }
 
 // Any book, scratch, numbers, trace and buffer are taken. `traced`: a trace is given.
-pub fn record(
-    book: &[u8],
+pub fn record<'a>(
+    book: &'a [u8],
     scratch: &mut [u8],
     parent: u32,
     term: u32,
     typ: u32,
     traced: bool,
-    trace: &[u8],
+    trace: &'a [u8],
     out: &mut [u8],
 ) -> Appended
     ensures { λ r. ⌜ (appendedValue r ≡ growCall (now (book .entry)) (lent (recordTerm parent term typ (given traced (now (trace .entry)))) (now (scratch .entry)) (now (out .entry))) .answer) × (now (out .exit) ≡ growCall (now (book .entry)) (lent (recordTerm parent term typ (given traced (now (trace .entry)))) (now (scratch .entry)) (now (out .entry))) .buffer) × (now (scratch .exit) ≡ growCall (now (book .entry)) (lent (recordTerm parent term typ (given traced (now (trace .entry)))) (now (scratch .entry)) (now (out .entry))) .scratch) ⌝ }
@@ -271,11 +271,11 @@ pub fn record(
     }
 }
 
-fn record_trace_point_in(
-    book: &[u8],
+fn record_trace_point_in<'a>(
+    book: &'a [u8],
     scratch: &mut [u8],
     parent: u32,
-    trace: &[u8],
+    trace: &'a [u8],
     out: &mut [u8],
 ) -> Appended
     requires { ⌜ Ready (now book) (now scratch) ⌝ }
@@ -288,11 +288,11 @@ fn record_trace_point_in(
 }
 
 // Any book, scratch, number, trace and buffer are taken.
-pub fn record_trace_point(
-    book: &[u8],
+pub fn record_trace_point<'a>(
+    book: &'a [u8],
     scratch: &mut [u8],
     parent: u32,
-    trace: &[u8],
+    trace: &'a [u8],
     out: &mut [u8],
 ) -> Appended
     ensures { λ r. ⌜ (appendedValue r ≡ growCall (now (book .entry)) (lent (recordTracePoint parent (now (trace .entry))) (now (scratch .entry)) (now (out .entry))) .answer) × (now (out .exit) ≡ growCall (now (book .entry)) (lent (recordTracePoint parent (now (trace .entry))) (now (scratch .entry)) (now (out .entry))) .buffer) × (now (scratch .exit) ≡ growCall (now (book .entry)) (lent (recordTracePoint parent (now (trace .entry))) (now (scratch .entry)) (now (out .entry))) .scratch) ⌝ }

@@ -40,7 +40,12 @@ pub struct TermFields {
 // A list entry has four bytes.
 const ENTRY: usize = 4;
 
-fn append_name_in(book: &[u8], scratch: &mut [u8], text: &[u8], out: &mut [u8]) -> Appended
+fn append_name_in<'a>(
+    book: &'a [u8],
+    scratch: &mut [u8],
+    text: &'a [u8],
+    out: &mut [u8],
+) -> Appended
     requires { ⌜ Ready (now book) (now scratch) ⌝ }
     ensures { λ r. ⌜ Appends (growIn (now (book .entry)) (appendName (now (text .entry))) (length (now (out .entry)))) r (now (out .entry)) (now (out .exit)) (now (scratch .entry)) (now (scratch .exit)) ⌝ }
 {
@@ -65,7 +70,12 @@ fn append_name_in(book: &[u8], scratch: &mut [u8], text: &[u8], out: &mut [u8]) 
 }
 
 // Any book, scratch, text and buffer are taken.
-pub fn append_name(book: &[u8], scratch: &mut [u8], text: &[u8], out: &mut [u8]) -> Appended
+pub fn append_name<'a>(
+    book: &'a [u8],
+    scratch: &mut [u8],
+    text: &'a [u8],
+    out: &mut [u8],
+) -> Appended
     ensures { λ r. ⌜ (appendedValue r ≡ growCall (now (book .entry)) (lent (appendName (now (text .entry))) (now (scratch .entry)) (now (out .entry))) .answer) × (now (out .exit) ≡ growCall (now (book .entry)) (lent (appendName (now (text .entry))) (now (scratch .entry)) (now (out .entry))) .buffer) × (now (scratch .exit) ≡ growCall (now (book .entry)) (lent (appendName (now (text .entry))) (now (scratch .entry)) (now (out .entry))) .scratch) ⌝ }
 {
     match book_test(book, scratch) {
@@ -206,12 +216,12 @@ fn listed(ranged: bool, length: usize) -> usize
     ENTRY * (length / ENTRY)
 }
 
-fn append_term_in(
-    book: &[u8],
+fn append_term_in<'a>(
+    book: &'a [u8],
     scratch: &mut [u8],
     term: TermFields,
-    first: &[u8],
-    second: &[u8],
+    first: &'a [u8],
+    second: &'a [u8],
     out: &mut [u8],
 ) -> Appended
     requires { ⌜ Ready (now book) (now scratch) ⌝ }
@@ -248,12 +258,12 @@ fn append_term_in(
 }
 
 // Any book, scratch, fields, lists and buffer are taken.
-pub fn append_term(
-    book: &[u8],
+pub fn append_term<'a>(
+    book: &'a [u8],
     scratch: &mut [u8],
     term: TermFields,
-    first: &[u8],
-    second: &[u8],
+    first: &'a [u8],
+    second: &'a [u8],
     out: &mut [u8],
 ) -> Appended
     ensures { λ r. ⌜ (appendedValue r ≡ growCall (now (book .entry)) (lent (appendTerm (fieldsOf term) (now (first .entry)) (now (second .entry))) (now (scratch .entry)) (now (out .entry))) .answer) × (now (out .exit) ≡ growCall (now (book .entry)) (lent (appendTerm (fieldsOf term) (now (first .entry)) (now (second .entry))) (now (scratch .entry)) (now (out .entry))) .buffer) × (now (scratch .exit) ≡ growCall (now (book .entry)) (lent (appendTerm (fieldsOf term) (now (first .entry)) (now (second .entry))) (now (scratch .entry)) (now (out .entry))) .scratch) ⌝ }
