@@ -1,5 +1,6 @@
 -- Texts that are written over the front of a buffer: what the callers of a writer cite.
 use Prim.Native.Nat.{ℕ, zero, suc, _+_, _-_, _<_, _≤_, min}
+use native.Mathlib.Nat.{le-of-eq}
 use native.Mathlib.Omega.{arith}
 use mathlib.Core.Path.{_≡_, refl, ap, _∙_}
 use mathlib.Core.List.{List, [], _∷_, _++_, append-nil}
@@ -21,6 +22,17 @@ unfolding overlay
 overlay-fits [] o h = refl
 overlay-fits (x ∷ t) [] h = absurd (omega arith)
 overlay-fits (x ∷ t) (y ∷ o) h = rw (overlay-fits t o (omega arith))
+
+-- one that fills it stands there alone
+pub overlay-whole : (t o : List ℕ) → length t ≡ length o → overlay t o ≡ t
+overlay-whole t o h = overlay-fits t o (le-of-eq h) ∙ ap (λ (r : List ℕ). t ++ r) (drop-of-length-le o {i = length t} (omega arith)) ∙ append-nil t
+
+-- and is taken from there whole
+pub take-overlay : (t : Text) (buffer : List ℕ) → length t ≤ length buffer → take (length t) (overlay t buffer) ≡ t
+unfolding overlay
+take-overlay [] buffer h = refl
+take-overlay (x ∷ t) [] h = absurd (omega arith)
+take-overlay (x ∷ t) (y ∷ buffer) h = ap {B = Text} (λ (r : Text). x ∷ r) (take-overlay t buffer (omega arith))
 
 -- an empty buffer stays as it is
 overlay-empty : (t : Text) → overlay t [] ≡ []

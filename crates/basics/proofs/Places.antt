@@ -8,7 +8,7 @@ use lib.Seq.{take-all}
 use Rattle.basics.specs.Text.{Text}
 use Rattle.basics.specs.Buffer.{overlay}
 use Rattle.basics.specs.Write.{MOST, Wrote, overlayAt, WroteAt}
-use Rattle.basics.proofs.Laws.{length-overlay, joined}
+use Rattle.basics.proofs.Laws.{length-overlay, overlay-whole, take-overlay, joined}
 
 length-overlay-at : (n : ℕ) (t : Text) (o : List ℕ) → length (overlayAt n t o) ≡ length o
 unfolding overlayAt
@@ -68,6 +68,16 @@ at-as e w = rw e at w
 
 pub at-length : {t : Text} {n : ℕ} {o o1 : List ℕ} {r : ℕ} → WroteAt t n o o1 r → length o1 ≡ length o
 at-length {t} {n} {o} w = ap length (w .shown) ∙ length-overlay-at n t o
+
+-- a text that fills the buffer
+pub at-whole : {t : Text} {o o1 : List ℕ} {r : ℕ} → WroteAt t 0 o o1 r → length t ≡ length o → o1 ≡ t
+unfolding overlayAt
+at-whole {t} {o} w h = w .shown ∙ overlay-whole t o h
+
+-- a text at the front of the buffer, taken by the place behind it
+pub at-taken : {t : Text} {o o1 : List ℕ} {r : ℕ} → WroteAt t 0 o o1 r → length t ≤ length o → r ≡ length t → take r o1 ≡ t
+unfolding overlayAt
+at-taken {t} {o} w h e = rw (e, w .shown) (take-overlay t o h)
 
 -- a writer of a part: it gets the buffer from `clip` on, and the next place is `sum`
 pub at-part : {t : Text} {o p : List ℕ} {n k m r : ℕ} → k ≡ min n (length o) → Wrote t (take (length o - k) (drop k o)) p m → r ≡ min (n + m) MOST

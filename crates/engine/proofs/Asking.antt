@@ -4,6 +4,7 @@ use mathlib.Core.Path.{_≡_, sym, ap, _∙_}
 use mathlib.Core.List.{List, [], _∷_, _++_, append-assoc}
 use lib.ListN.{length}
 use Rattle.basics.specs.Write.{MOST, Wrote, WroteAt}
+use Rattle.basics.proofs.Laws.{overlay-whole}
 use Rattle.basics.proofs.Places.{at-as}
 use Rattle.book.specs.Book.{Book}
 use Rattle.book.specs.Program.{path, depth}
@@ -13,7 +14,6 @@ use Rattle.smt_engines.specs.Command.{Command, Push, AssumeNot, CheckSat, scrip
 use Rattle.rsolver.specs.LevelState.{LevelState, levelState, levelled, levelCount, push, send, count, sentBy}
 use Rattle.rsolver.specs.REngine.{assumeNot, declareNewSymbols}
 use Rattle.levels.specs.declared.Progress.{Progress}
-use Rattle.session_levels.proofs.Filled.{overlay-whole}
 use Rattle.walk.specs.Walk.{Stands, NewSymbols}
 use Rattle.solvers.specs.Rule.{standing, goalState, goalCommands, denialCommands, questionCommands}
 use Rattle.solvers.proofs.Good.{good}

@@ -7,8 +7,8 @@ use lib.ListN.{length, take, drop, length-drop}
 use lib.Seq.{take-all}
 use Rattle.basics.specs.Bytes.{bytes4}
 use Rattle.basics.specs.Write.{MOST, Wrote, overlayAt, WroteAt}
+use Rattle.basics.proofs.Laws.{overlay-whole}
 use Rattle.basics.proofs.Places.{at-then}
-use Rattle.session_levels.proofs.Filled.{overlay-whole}
 use Rattle.rsolver.specs.LevelState.{levelCount}
 use Rattle.solvers.specs.declared.Session.{Session}
 use Rattle.solvers.specs.Image.{imageKind, headSize, imageSize, owedNumber, writeImage}

@@ -9,7 +9,7 @@ use Rattle.basics.specs.Basics.{nat2String, int2StringNoLeadingZero}
 use Rattle.basics.specs.Buffer.{overlay, bufferAfter}
 use Rattle.basics.specs.Outcome.{Outcome, refused, accepted, mapOutcome}
 use Rattle.basics.specs.Write.{MOST, Wrote}
-use Rattle.basics.proofs.Laws.{length-overlay}
+use Rattle.basics.proofs.Laws.{length-overlay, take-overlay}
 use Rattle.book.specs.Refusal.{number}
 use Rattle.book.specs.declared.Refusal.{Refusal}
 use Rattle.book.specs.declared.Refusal.the-variants.{ShortScratch, BadContents, CountOverLimit, FieldOutOfRange, NoForest, TooDeep, NotInBook, ReplyIsUnsat, MissingAxiom, BufferTooShort, NoOperator, NoSession, QuestionOpen, NoReplyOwed, NoModelOwed}
@@ -19,7 +19,7 @@ use Rattle.solvers.specs.declared.Answer.{Answer}
 use Rattle.solvers.specs.declared.Answer.the-variants as answer
 use Rattle.solvers.specs.Left.{answerValue, values, valuesBy}
 use Rattle.solvers.specs.Taken.{textLength}
-use Rattle.solvers.proofs.Taken.{FitsIn, take-overlay, by-length}
+use Rattle.solvers.proofs.Taken.{FitsIn, by-length}
 use Rattle.script_text.specs.Script.{textSize, stopped, refusedLine, told}
 use Rattle.script_text.specs.Turned.{Shows, Tells}
 

@@ -43,12 +43,6 @@ call-fits b s (askFor h n t) = behind h _ _ (behind h _ _ (behind h _ _ (behind 
 call-fits b s (replyWith h ok r) = behind h _ _ (behind h _ _ (behind h _ _ (fitting-fits h _)))
 call-fits b s (modelWith h r m) = behind h _ _ (behind h _ _ (behind h _ _ (behind h _ _ (fitting-fits h _))))
 
-pub take-overlay : (t : Text) (buffer : List ℕ) → length t ≤ length buffer → take (length t) (overlay t buffer) ≡ t
-unfolding overlay
-take-overlay [] buffer h = refl
-take-overlay (x ∷ t) [] h = absurd (omega arith)
-take-overlay (x ∷ t) (y ∷ buffer) h = ap {B = Text} (λ (r : Text). x ∷ r) (take-overlay t buffer (omega arith))
-
 pub by-length : (r : Option ProofResult) (n : ℕ) → textLength (valuesBy r n) ≡ n
 unfolding textLength valuesBy
 by-length none n = refl

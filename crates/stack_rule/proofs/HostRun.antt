@@ -4,6 +4,7 @@ use native.Mathlib.Omega.{arith}
 use mathlib.Core.Path.{_≡_, refl, ap, _∙_}
 use mathlib.Core.List.{List, [], _∷_, _++_, append-nil}
 use lib.ListN.{length, take, length-replicate}
+use Rattle.basics.proofs.Laws.{take-overlay}
 use Rattle.basics.specs.Outcome.{Outcome, refused, accepted, mapOutcome}
 use Rattle.basics.specs.Buffer.{overlay, bufferAfter}
 use Rattle.book.specs.Book.{Book}
@@ -24,7 +25,7 @@ use Rattle.solvers.specs.Rule.{Present, sessionAt}
 use Rattle.solvers.proofs.Good.{good}
 use Rattle.solvers.proofs.Questions.{Asks, Fits}
 use Rattle.solvers.proofs.Enough.{levels-length}
-use Rattle.solvers.proofs.Taken.{FitsIn, call-fits, take-overlay, by-length}
+use Rattle.solvers.proofs.Taken.{FitsIn, call-fits, by-length}
 use Rattle.solvers.proofs.Image.{Imaged, read-written}
 use Rattle.stack_rule.specs.Events.{Event, calls, writes, Trace, after, happens, runFrom, start, run}
 use Rattle.stack_rule.specs.Bodies.{doEvent}
