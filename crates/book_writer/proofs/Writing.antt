@@ -1,22 +1,21 @@
 -- An accepted call of the writer gives a book that grew, and the host takes it whole.
 use Prim.Native.Nat.{ℕ, _≤_}
 use native.Mathlib.Omega.{arith}
-use mathlib.Core.Path.{_≡_, refl, ap, _∙_, subst}
+use mathlib.Core.Path.{_≡_, refl, ap, subst}
 use mathlib.Core.Bool.{true, not}
-use mathlib.Core.List.{List, [], _∷_, _++_}
 use lib.Dec.{ltb}
-use lib.ListN.{length, take, drop}
+use lib.ListN.{length}
 use borrow.Author.Tests.{ltb-false, not-false}
 use Rattle.basics.specs.Outcome.{Outcome, refused, accepted, _>>_, mapOutcome}
-use Rattle.basics.specs.Buffer.{overlay, bufferAfter}
-use Rattle.basics.proofs.Laws.{overlay-fits}
+use Rattle.basics.specs.Buffer.{bufferAfter}
+use Rattle.basics.proofs.Laws.{take-overlay}
 use Rattle.book.specs.Book.{Book}
 use Rattle.book_test.specs.BookTest.{bookTest, ready}
 use Rattle.book_test.proofs.Outcomes.{passed, ready-passed}
 use Rattle.book_growth.specs.Growth.{Addition, grown, growsWithin, Whole}
 use Rattle.book_growth.specs.Grows.{Grows}
 use Rattle.book_growth.proofs.GrownProgram.{grown-term, grown-program}
-use Rattle.book_writer.specs.Growths.{Growth, additionOf, numberOf, outside, handedRight}
+use Rattle.book_writer.specs.Growths.{Growth, additionOf, outside, handedRight}
 use Rattle.book_writer.specs.Writing.{Grown, grow, Lent, numbers, bookOf, grownLeft, outcomeOf, growCall, newest, write, tookBy, took}
 use Rattle.book_writer.proofs.Recorded.{addition-whole}
 
@@ -67,15 +66,10 @@ pub write-grows : (b : Book) (x : Lent) (c : Book) → write b x ≡ accepted c 
 unfolding write
 write-grows b x c e = grew b x (outcomeOf b x) refl c e
 
-take-front : (t u : List ℕ) → take (length t) (t ++ u) ≡ t
-take-front [] u = refl
-take-front (x ∷ t) u = ap {B = List ℕ} (λ r. x ∷ r) (take-front t u)
-
 takes : (b : Book) (x : Lent) (o : Outcome Grown) → outcomeOf b x ≡ o → took b (grownLeft o (x .buffer) (x .scratch)) ≡ newest b (mapOutcome bookOf o)
 unfolding took tookBy grownLeft mapOutcome bufferAfter numbers bookOf newest
 takes b x (refused k) e = refl
-takes b x (accepted y) e =
-    ap (take (length (y .book))) (overlay-fits (y .book) (x .buffer) (outcome-passed b x y e .fits)) ∙ take-front (y .book) (drop (length (y .book)) (x .buffer))
+takes b x (accepted y) e = take-overlay (y .book) (x .buffer) (outcome-passed b x y e .fits)
 
 pub took-newest : (b : Book) (x : Lent) → took b (growCall b x) ≡ newest b (write b x)
 unfolding growCall write

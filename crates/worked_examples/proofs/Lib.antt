@@ -9,6 +9,7 @@ pub mod Operators
 pub mod Refusals
 pub mod Depths
 pub mod Lists
+pub mod Growths
 pub mod Sessions
 pub mod Searches
 pub mod Nodes
