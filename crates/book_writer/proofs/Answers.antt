@@ -51,7 +51,7 @@ deliver-stops : (c : Book) (n room : ℕ) {k : ℕ} → bookTest c ≡ refused k
 unfolding deliver _>>_
 deliver-stops c n room e = rw e
 
-refused-as : {d : Tested} {why : Refusal} → d ≡ Refused why → testedValue d ≡ refused (number why)
+pub refused-as : {d : Tested} {why : Refusal} → d ≡ Refused why → testedValue d ≡ refused (number why)
 unfolding testedValue
 refused-as e = rw e
 

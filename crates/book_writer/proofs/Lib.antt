@@ -1,3 +1,7 @@
 pub mod Answers
 pub mod Recorded
 pub mod Writing
+pub mod Calls
+pub mod Additions
+pub mod Fields
+pub mod Probes

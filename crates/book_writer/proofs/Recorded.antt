@@ -67,6 +67,10 @@ fours b (extendWithEquality p v t) = (2, length-row _)
 fours b (recordTerm p t typ trace) = probe-fours b (some t)
 fours b (recordTracePoint p trace) = probe-fours b none
 
+pub probe-draft-whole : (b : Book) (probe : Text) (p : ℕ) (t : Option ℕ) (typ : ℕ) (trace : Option Text) → Whole (additionFrom b (probeDraftBy b probe p t typ trace))
+unfolding probeDraftBy
+probe-draft-whole b probe p t typ trace = let f = probe-fours b t in draft-whole b (probeDraftBy b probe p t typ trace) (f .0) (f .1)
+
 pub addition-whole : (b : Book) (g : Growth) → Whole (additionOf b g)
 unfolding additionOf
 addition-whole b g = let f = fours b g in draft-whole b (draftOf b g) (f .0) (f .1)

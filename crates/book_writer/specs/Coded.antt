@@ -15,6 +15,7 @@ use Rattle.book.specs.Program.{depth}
 use Rattle.book.specs.Decode.{program}
 use Rattle.name_search.specs.Probe.{probeName}
 use Rattle.book_test.specs.BookTest.{bookTest}
+use Rattle.book_test.specs.Promise.{Promise}
 use Rattle.book_growth.specs.Growth.{Addition, grown, growsWithin, Whole}
 use Rattle.new_records.specs.Drafts.{NewTerm, newTerm, newNode, newConstant, constantRow, termRow, nodeRow, additionFrom}
 use Rattle.book_writer.specs.Growths.{Growth, entryCount, filled, additionOf, numberOf, outside, handedRight, probeTerms, probeLists, probeEquality, probeDraftBy}
@@ -32,6 +33,7 @@ pub record Spare (scratch : List ℕ) : Type 0 where
 -- behind refusals 1 to 6 of the book received
 pub record Ready (b : Book) (scratch : List ℕ) : Type 0 where
   pub tested : bookTest b ≡ accepted tt
+  pub promise : Promise b
   pub spare : Spare scratch
 
 -- a new book that passed its test
@@ -103,7 +105,7 @@ trueIf false = []
 
 pub record AreTerms (terms : List ℕ) (r : terms-code.PointTerms) : Type 0 where
   pub are : take (r .length) (r .bytes) ≡ terms
-  pub fit : r .length ≤ 84
+  pub fit : r .length ≤ length (r .bytes)
 
 pub record IsEquality (b : Book) (term : Option ℕ) (r : ℕ) : Type 0 where
   pub is : r ≡ probeEquality b term
@@ -112,6 +114,6 @@ pub record IsEquality (b : Book) (term : Option ℕ) (r : ℕ) : Type 0 where
 pub record AreRows (b : Book) (probe operator trace parent typ : ℕ) (term : Option ℕ) (r : rows-code.ProbeRows) : Type 0 where
   pub constant : r .constant ≡ rows (map constantRow (newConstant probe typ ∷ []))
   pub terms : take (r .«terms_length») (r .terms) ≡ rows (map termRow (probeTerms b operator term))
-  pub terms-fit : r .«terms_length» ≤ 84
+  pub terms-fit : r .«terms_length» ≤ length (r .terms)
   pub node : r .node ≡ rows (map nodeRow (newNode parent (probeEquality b term) (suc trace) ∷ []))
   pub entries : r .entries ≡ probeLists b term

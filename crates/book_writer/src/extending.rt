@@ -101,13 +101,14 @@ fn extend_traced<'a>(
         trace,
         name.new,
     );
+    let letters = parts.letters;
     let rows = parts.rows;
     let node = row3(parent as usize, term as usize, name.number + 1);
     let number = next_node(book);
     append(
         book,
         scratch,
-        &nothing,
+        &letters[..parts.letters_length],
         &trace[..parts.text_length],
         &rows[..parts.rows_length],
         &nothing,

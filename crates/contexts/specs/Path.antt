@@ -1,7 +1,7 @@
 -- What the readers of the tree of contexts ask for, and what they give.
 use Prim.Native.Nat.{ℕ, _-_, _<_, _≤_}
 use mathlib.Core.Path.{_≡_}
-use lib.ListN.{take}
+use lib.ListN.{length, take}
 use Rattle.book.specs.Book.{Book, contexts, size, depthMost}
 use Rattle.book.specs.Program.{Program, nodeAt, path, depth, shared}
 use Rattle.book.specs.Decode.{program}
@@ -27,6 +27,7 @@ pub record IsParent (b : Book) (node r : ℕ) : Type 0 where
 pub record IsPath (b : Book) (node : ℕ) (r : code.Path) : Type 0 where
   pub is : take (r .depth) (r .nodes) ≡ path (program b) node
   pub few : r .depth ≤ depthMost
+  pub within : r .depth ≤ length (r .nodes)
 
 -- a move from one node of an accepted book to another
 pub record IsMove (b : Book) (old new : ℕ) : Type 0 where

@@ -10,7 +10,7 @@ use borrow.Author.Tests.{not-true, not-false}
 use Rattle.basics.specs.Bytes.{bytes4, row, rows}
 use Rattle.basics.specs.Text.{Text}
 use Rattle.basics.specs.Write.{MOST, WroteAt}
-use Rattle.basics.proofs.Places.{at-then, at-none, at-as, at-taken}
+use Rattle.basics.proofs.Places.{at-then, at-none, at-as, at-taken, at-length}
 use Rattle.new_records.specs.Drafts.{rangeStart, nameRow, nameRows, allLetters}
 use Rattle.new_records.specs.Naming.{equals}
 use Rattle.new_records.specs.NewNames.{optional, newBefore, textIf, rowIf, lengthIf, AreLetters, AreParts}
@@ -72,7 +72,7 @@ letters-are P p e {x} {o} {q} {r1} {r} w1 w2 low long =
       are = at-taken w (omega arith) whole;
       probe = omega (arith, w1 .counted, text-most p P);
       whole = whole;
-      few = omega arith;
+      fits = omega (arith, at-length w);
     }
 
 -- ---- texts in a row
@@ -157,7 +157,7 @@ module _ (P : Text) (p e : Bool) where
         record {
           letters = rw (en, a .are) (sym letters-whole);
           rows = at-taken w (omega arith) (omega (arith, w .counted)) ∙ sym (rows-whole k);
-          letters-fit = a .few;
+          letters-fit = a .fits;
           text-fits = rw en (length-most t (length T));
-          rows-fit = omega (arith, w .counted);
+          rows-fit = omega (arith, w .counted, at-length w);
         }

@@ -74,11 +74,11 @@ pub record AreLetters (name : Text) (p e : Bool) (r : letters-code.Letters) : Ty
   pub are : take (r .length) (r .bytes) ≡ textIf p name ++ textIf e equals
   pub probe : r .probe ≡ length (textIf p name)
   pub whole : r .length ≡ length (textIf p name ++ textIf e equals)
-  pub few : r .length ≤ 9
+  pub fits : r .length ≤ length (r .bytes)
 
 pub record AreParts (behind : ℕ) (probe : Text) (p e : Bool) (text : Text) (t : Bool) (r : parts-code.NameParts) : Type 0 where
   pub letters : take (r .«letters_length») (r .letters) ++ take (r .«text_length») text ≡ allLetters (newBefore probe p e ++ optional t text)
   pub rows : take (r .«rows_length») (r .rows) ≡ rows (nameRows behind (newBefore probe p e ++ optional t text))
-  pub letters-fit : r .«letters_length» ≤ 9
+  pub letters-fit : r .«letters_length» ≤ length (r .letters)
   pub text-fits : r .«text_length» ≤ length text
-  pub rows-fit : r .«rows_length» ≤ 24
+  pub rows-fit : r .«rows_length» ≤ length (r .rows)

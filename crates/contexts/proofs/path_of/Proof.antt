@@ -35,7 +35,7 @@ loop-again : tie.Need-loop-again Inv-loop μ-loop
 loop-again c = simp add-one (climbing-more _ (c .before .before .before .before .before .pre .promise) (c .before .loop-test .taken) (c .before .before .loop .inv) (c .parent .ensures .is))
 
 returns : tie.Need-returns Inv-loop μ-loop
-returns c = record { is = climbing-done (omega (arith, c .loop-test .left)) (c .before .loop .inv); few = omega (arith, c .before .loop .inv .room) }
+returns c = record { is = climbing-done (omega (arith, c .loop-test .left)) (c .before .loop .inv); few = omega (arith, c .before .loop .inv .room); within = omega (arith, c .before .loop .inv .room, c .before .loop .inv .long) }
 
 pub path-of-spec : {M : Type 1} → statement M
 path-of-spec = tie.close (tie.spec Inv-loop μ-loop (λ c κs. search needs) loop-holds mul-nodes array-write-nodes add-depth parent-requires loop-less loop-again returns)
