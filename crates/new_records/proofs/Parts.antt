@@ -72,6 +72,7 @@ letters-are P p e {x} {o} {q} {r1} {r} w1 w2 low long =
       are = at-taken w (omega arith) whole;
       probe = omega (arith, w1 .counted, text-most p P);
       whole = whole;
+      few = omega arith;
       fits = omega (arith, at-length w);
     }
 

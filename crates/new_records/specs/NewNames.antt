@@ -74,6 +74,7 @@ pub record AreLetters (name : Text) (p e : Bool) (r : letters-code.Letters) : Ty
   pub are : take (r .length) (r .bytes) ≡ textIf p name ++ textIf e equals
   pub probe : r .probe ≡ length (textIf p name)
   pub whole : r .length ≡ length (textIf p name ++ textIf e equals)
+  pub few : r .length ≤ 9
   pub fits : r .length ≤ length (r .bytes)
 
 pub record AreParts (behind : ℕ) (probe : Text) (p e : Bool) (text : Text) (t : Bool) (r : parts-code.NameParts) : Type 0 where

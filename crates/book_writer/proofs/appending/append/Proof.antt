@@ -5,36 +5,19 @@ use Rattle.book_writer.proofs.Answers.{over-limit, handed-wrong, handed
 use borrow.Author.Needs.{needs}
 use Rattle.book_writer.proofs.appending.append.Statement.{statement}
 use Rattle.book_writer.proofs.appending.append.Tie as tie
-use Rattle.book_writer.proofs.appending.append.Reads as reads
-use Rattle.book_writer.proofs.appending.append.Lts as lts
-use Rattle.book_growth.proofs.grows_within.Reads as grows-within-reads
-use Rattle.book_writer.proofs.appending.lay_out.Reads as lay-out-reads
 
--- src/appending.rt:103:9
 grows-within-requires : tie.Need-grows-within-requires
 grows-within-requires c κs = all-laid _ (test-passed _ (c .before .before .before .before .before .before .before .before .before .before .before .pre .0 .tested) .laid) (test-passed _ (c .before .before .before .before .before .before .before .before .before .before .before .pre .0 .tested) .counts)
 
--- src/appending.rt:114:9
 returns : tie.Need-returns
 returns c = over-limit _ _ _ _ _ _ (c .before .grows-within .ensures) (c .if1 .taken)
 
--- src/appending.rt:117:9
 returns-2 : tie.Need-returns-2
 returns-2 c = handed-wrong _ _ _ _ _ _ (passed (c .before .before .grows-within .ensures) (c .before .if1 .left)) (c .if2 .taken)
 
--- src/appending.rt:119:5
 lay-out-requires : tie.Need-lay-out-requires
 lay-out-requires c κs = (c .before .before .before .before .before .before .before .before .before .before .before .before .before .before .before .before .pre .0, c .before .before .before .before .before .before .before .before .before .before .before .before .before .before .before .before .pre .1, passed (c .before .before .before .before .grows-within .ensures) (c .before .before .before .if1 .left))
 
--- src/appending.rt:85:1
-same-length : tie.Need-same-length
-same-length c = search needs
-
--- src/appending.rt:85:1
-same-length-2 : tie.Need-same-length-2
-same-length-2 c = search needs
-
--- src/appending.rt:85:1
 returns-3 : tie.Need-returns-3
 returns-3 c = handed-right _ _ _ _ _ _ (passed (c .before .before .before .before .before .before .before .before .before .grows-within .ensures) (c .before .before .before .before .before .before .before .before .if1 .left)) (c .before .before .before .before .before .before .before .if2 .left) (c .before .before .before .before .lay-out .ensures)
 
@@ -46,6 +29,6 @@ append-spec =
     returns
     returns-2
     lay-out-requires
-    same-length
-    same-length-2
+    (λ c. search needs)
+    (λ c. search needs)
     returns-3)

@@ -3,25 +3,19 @@ use Rattle.book_writer.proofs.Fields.{ranges-other}
 use borrow.Author.Needs.{needs}
 use Rattle.book_writer.proofs.records.ranges_of.Statement.{statement}
 use Rattle.book_writer.proofs.records.ranges_of.Tie as tie
-use Rattle.book_writer.proofs.records.ranges_of.Reads as reads
-use Rattle.book_writer.proofs.records.ranges_of.Lts as lts
 
--- src/records.rt:134:1
 returns : tie.Need-returns
 unfolding rangesOf
 returns c = search needs
 
--- src/records.rt:134:1
 returns-2 : tie.Need-returns-2
 unfolding rangesOf
 returns-2 c = search needs
 
--- src/records.rt:134:1
 returns-3 : tie.Need-returns-3
 unfolding rangesOf
 returns-3 c = search needs
 
--- src/records.rt:134:1
 returns-4 : tie.Need-returns-4
 returns-4 c = ranges-other _ (c .match .rest .0 .0 .1) (c .match .rest .0 .1) (c .match .rest .1)
 
