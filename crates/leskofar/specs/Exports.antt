@@ -9,9 +9,11 @@ use Rattle.basics.specs.Text.{if_then_else_}
 use Rattle.basics.specs.Outcome.{Outcome, refused, accepted}
 use Rattle.solvers.specs.Left.{Values, written, proved, unproved}
 use Rattle.solvers.specs.Image.{imageSize}
+use Rattle.book_writer.specs.Writing.{Numbers}
 use Rattle.leskofar.specs.declared.node_calls.NodesAnswered.{NodesAnswered}
 use Rattle.leskofar.specs.declared.print_calls.Told.{Told}
 use Rattle.leskofar.specs.declared.session_calls.Answered.{Answered}
+use Rattle.leskofar.specs.declared.writer_calls.AppendAnswered.{AppendAnswered}
 
 -- 0, or the number of the refusal
 unfoldable pub refusalOf : {A : Type 0} → Outcome A → ℕ
@@ -39,6 +41,11 @@ answered (refused n) = record { refusal = n; result = 0; text = 0; reason = 0 }
 answered (accepted (written n)) = record { refusal = 0; result = 0; text = n; reason = 0 }
 answered (accepted (proved n)) = record { refusal = 0; result = 1; text = n; reason = 0 }
 answered (accepted (unproved n m)) = record { refusal = 0; result = 2; text = n; reason = m }
+
+-- the same of a call of the writer, with the new record's number and the new book's length
+unfoldable pub appended : Outcome Numbers → AppendAnswered
+appended (refused n) = record { refusal = n; number = 0; length = 0 }
+appended (accepted x) = record { refusal = 0; number = x .number; length = x .length }
 
 -- bytes that cannot hold an image are no session's
 unfoldable pub freshRefusal : List ℕ → ℕ

@@ -8,6 +8,7 @@ use refusal_numbers::number;
 mod node_calls;
 mod print_calls;
 mod session_calls;
+mod writer_calls;
 
 pub use node_calls::NodesAnswered;
 pub use node_calls::leskofar_nodes_test;
@@ -22,6 +23,15 @@ pub use session_calls::leskofar_fresh;
 pub use session_calls::leskofar_model;
 pub use session_calls::leskofar_move;
 pub use session_calls::leskofar_reply;
+pub use writer_calls::AppendAnswered;
+pub use writer_calls::leskofar_append_constant;
+pub use writer_calls::leskofar_append_name;
+pub use writer_calls::leskofar_append_node;
+pub use writer_calls::leskofar_append_term;
+pub use writer_calls::leskofar_extend;
+pub use writer_calls::leskofar_extend_with_equality;
+pub use writer_calls::leskofar_record;
+pub use writer_calls::leskofar_record_trace_point;
 
 // The answer of an accepted call where a refusal's number would stand.
 const ACCEPTED: u32 = 0;
