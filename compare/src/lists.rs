@@ -11,6 +11,7 @@ use crate::seen::Seen;
 use crate::session_library::{self as library, PROVED, UNPROVED};
 use crate::session_shapes::{cyclic, Travelled};
 use crate::strict::Strict;
+use leskofar_reference::book::Book;
 use leskofar_reference::book_test::{check, SCRATCH_SIZE};
 use leskofar_reference::commands::LINE_END;
 use leskofar_reference::damage::damaged;
@@ -26,10 +27,9 @@ use std::collections::BTreeSet;
 const LONGER: [usize; 4] = [1, 2, 9, 4096];
 const SHORT_SCRATCHES: [usize; 3] = [0, 1, SCRATCH_SIZE - 1];
 
-pub struct List<'l, 'b> {
-    maker: &'l Maker,
-    book: &'b [u8],
-    program: &'l Program<'b>,
+pub struct List {
+    maker: Maker,
+    book: Vec<u8>,
     cyclic: BTreeSet<usize>,
     /// As the library left it.
     image: Vec<u8>,
@@ -41,23 +41,24 @@ pub struct List<'l, 'b> {
     owed: Owed,
 }
 
-impl<'l, 'b> List<'l, 'b> {
-    /// A list without calls; `program` is what the maker's `book` holds.
-    pub fn new(maker: &'l Maker, book: &'b [u8], program: &'l Program<'b>) -> List<'l, 'b> {
+impl List {
+    /// A list without calls, on a good book.
+    pub fn new(maker: &Maker) -> Result<List, String> {
+        let book = maker.book();
+        let program = check(&book).map_err(|refusal| format!("refused {refusal}"))?;
         let mut image = vec![0; IMAGE_SIZE];
         library::fresh(&mut image);
-        List {
-            maker,
-            book,
-            program,
-            cyclic: cyclic(program),
+        Ok(List {
+            maker: maker.clone(),
+            cyclic: cyclic(&program),
             image,
             reader: Reader::default(),
-            strict: Strict::new(book, program),
+            strict: Strict::new(&book, &program),
             node: ROOT as u32,
             goal: None,
             owed: Owed::Nothing,
-        }
+            book,
+        })
     }
 
     pub fn image(&self) -> &[u8] {
@@ -75,8 +76,8 @@ impl<'l, 'b> List<'l, 'b> {
         if random.one_in(AT_TIMES) {
             self.foreign_call(random, other, measure, seen)?;
         }
-        let call = random_call(random, self.program, self.owed);
-        let (text, reason) = measure.lengths(&call, self.book, &self.image);
+        let call = random_call(random, &self.maker, self.owed);
+        let (text, reason) = measure.lengths(&call, &self.book, &self.image);
         let [text, reason] = [text, reason].map(|length| room(random, length));
         self.step(&call, text, reason, seen).map(|_| ())
     }
@@ -90,7 +91,7 @@ impl<'l, 'b> List<'l, 'b> {
         seen: &mut Seen,
     ) -> Result<Left, String> {
         let left = call.compare(&Given {
-            book: self.book,
+            book: &self.book,
             image: &self.image,
             scratch: SCRATCH_SIZE,
             text,
@@ -144,15 +145,16 @@ impl<'l, 'b> List<'l, 'b> {
         }
         let levels = self.read(left.text())?;
         seen.levels += 1;
+        let program = decoded(&self.book)?;
         if let Some(strict) = &mut self.strict {
             seen.strict_lines += strict.read(left.text())?;
             if let Call::Ask { goal, .. } = call {
-                seen.strict_prints += strict.read_prints(self.book, self.program, *goal)?;
+                seen.strict_prints += strict.read_prints(&self.book, &program, *goal)?;
             }
         }
         if let Call::Move { .. } | Call::Ask { .. } = call {
             let travelled = Travelled {
-                program: self.program,
+                program: &program,
                 cyclic: &self.cyclic,
                 from,
                 to: self.node,
@@ -171,7 +173,7 @@ impl<'l, 'b> List<'l, 'b> {
         self.reader
             .read(text)
             .map_err(|lost| format!("the reader is lost, {lost:?},"))?;
-        let levels = expected_levels(self.book, self.node, self.goal)
+        let levels = expected_levels(&self.book, self.node, self.goal)
             .ok_or("the book gives no levels for the node and goal")?;
         if self.reader.levels() == levels {
             Ok(levels)
@@ -195,9 +197,9 @@ impl<'l, 'b> List<'l, 'b> {
             seen.images.add(manner);
             image = changed;
         }
-        let mut book = self.book.to_vec();
+        let mut book = self.book.clone();
         if random.one_in(OFTEN) {
-            book = damaged(random, self.maker);
+            book = damaged(random, &self.maker);
         }
         let scratch = if random.one_in(RARELY) {
             random.pick(&SHORT_SCRATCHES)
@@ -205,7 +207,7 @@ impl<'l, 'b> List<'l, 'b> {
             SCRATCH_SIZE + random.pick(&LONGER)
         };
         let owed = Session::read(&image).map_or(Owed::Nothing, |session| session.owed);
-        let call = random_call(random, self.program, owed);
+        let call = random_call(random, &self.maker, owed);
         let (text, reason) = measure.lengths(&call, &book, &image);
         let [text, reason] = [text, reason].map(|length| room(random, length));
         let left = call.compare(&Given {
@@ -225,9 +227,13 @@ pub fn on_book<T>(
     m: &Maker,
     run: impl FnOnce(&mut List) -> Result<T, String>,
 ) -> Result<T, String> {
-    let book = m.book();
-    let program = check(&book).map_err(|refusal| format!("refused {refusal}"))?;
-    run(&mut List::new(m, &book, &program))
+    run(&mut List::new(m)?)
+}
+
+/// What a good book holds.
+fn decoded(book: &[u8]) -> Result<Program<'_>, String> {
+    let book = Book::new(book).ok_or("no table of contents")?;
+    Ok(Program::decode(book))
 }
 
 /// Levels as their texts, which are ASCII.
