@@ -1,12 +1,14 @@
-//! Lists of session calls on one book. What is present and owed is taken from
+//! Lists of session calls on one book, the newest where it grows. What is present and owed is taken from
 //! the accepted calls alone, and a reader of their text holds the live levels
 //! against what the book alone gives; where the book's names are sane, the
 //! strict reader of SMT-LIB reads it too. In between come calls on foreign
-//! images, damaged books and short scratches, which leave the list alone.
+//! images, damaged books and short scratches, which leave the list alone; and
+//! the book may grow.
 
 use crate::calls::{Call, Given, Left, Measure};
 use crate::damaged_images::foreign;
 use crate::random_calls::random_call;
+use crate::sane::is_sane;
 use crate::seen::Seen;
 use crate::session_library::{self as library, PROVED, UNPROVED};
 use crate::session_shapes::{cyclic, Travelled};
@@ -63,6 +65,43 @@ impl List {
 
     pub fn image(&self) -> &[u8] {
         &self.image
+    }
+
+    /// The records of the newest book, and the book.
+    pub fn maker(&self) -> &Maker {
+        &self.maker
+    }
+
+    pub fn book(&self) -> &[u8] {
+        &self.book
+    }
+
+    pub fn node(&self) -> u32 {
+        self.node
+    }
+
+    pub fn goal(&self) -> Option<u32> {
+        self.goal
+    }
+
+    pub fn owed(&self) -> Owed {
+        self.owed
+    }
+
+    /// Whether a live command begins so.
+    pub fn has_live(&self, start: &[u8]) -> bool {
+        let mut live = self.reader.levels().iter().flatten();
+        live.any(|command| command.starts_with(start))
+    }
+
+    /// Goes on with a grown book, whose functions and axioms are the old ones:
+    /// what is live is what the new book gives too.
+    pub fn go_on(&mut self, book: &[u8]) -> Result<(), String> {
+        self.book = book.to_vec();
+        self.maker = Maker::of(Book::new(book).ok_or("no table of contents")?);
+        let program = decoded(book)?;
+        self.strict = self.strict.take().filter(|_| is_sane(book, &program));
+        self.read(&[]).map(|_| ())
     }
 
     /// A random call, at times after one that is no part of the list.
@@ -246,7 +285,7 @@ fn readable(levels: &[Level]) -> String {
 }
 
 /// A buffer for a text: just long enough, longer, too short by one, or none.
-fn room(random: &mut Random, length: usize) -> usize {
+pub fn room(random: &mut Random, length: usize) -> usize {
     if random.one_in(RARELY) {
         length.saturating_sub(1)
     } else if random.one_in(HARDLY_EVER) {

@@ -94,65 +94,55 @@ fn constants_and_nodes_are_their_records() {
     assert_eq!(records(&below).contexts, [[0, 1, 0], [1, 0, 1]]);
 }
 
+/// Where the record of a kind has the starts of its ranges.
+fn range_fields(kind: u32) -> &'static [usize] {
+    match kind {
+        kind::BUILT_IN | kind::FUNCTION => &[2],
+        kind::QUANTIFIER => &[2, 4],
+        _ => &[],
+    }
+}
+
 #[test]
 fn the_lists_of_a_term_stand_behind_the_others_in_field_order() {
     let mut m = with_terms(4);
     let [x, y] = ["x", "y"].map(|name| m.constant(name, INT));
     let f = m.function("f", &[INT], INT);
     let pattern = m.pattern(&[3]);
-    let old = m.lists.len() as u32;
-    let book = m.book();
-    for (record, lists, ranges, entries) in [
-        (
-            [kind::BUILT_IN, 0, 0, 0, 0, 0, 0],
-            [&[0, 1][..], &[]],
-            &[2][..],
-            &[0, 1][..],
-        ),
-        ([kind::FUNCTION, f, 0, 0, 0, 0, 0], [&[2], &[]], &[2], &[2]),
-        ([kind::FUNCTION, f, 0, 0, 0, 0, 0], [&[], &[]], &[2], &[]),
+    let old = m.lists.clone();
+    for (record, lists) in [
+        ([kind::BUILT_IN, 0, 0, 0, 0, 0, 0], [&[0, 1][..], &[]]),
+        ([kind::FUNCTION, f, 0, 0, 0, 0, 0], [&[2], &[]]),
+        ([kind::FUNCTION, f, 0, 0, 0, 0, 0], [&[], &[]]),
         (
             [kind::QUANTIFIER, 1, 0, 0, 0, 0, 2],
             [&[y, x, y], &[pattern]],
-            &[2, 4],
-            &[y, x, y, pattern],
         ),
-        (
-            [kind::QUANTIFIER, 0, 0, 0, 0, 0, 2],
-            [&[], &[pattern]],
-            &[2, 4],
-            &[pattern],
-        ),
-        (
-            [kind::QUANTIFIER, 0, 0, 0, 0, 0, 2],
-            [&[x], &[]],
-            &[2, 4],
-            &[x],
-        ),
-        ([kind::IF_THEN_ELSE, 0, 1, 2, 0, 0, 0], [&[], &[]], &[], &[]),
-        ([kind::LET, x, 1, 2, 0, 0, 0], [&[], &[]], &[], &[]),
+        ([kind::QUANTIFIER, 0, 0, 0, 0, 0, 2], [&[], &[pattern]]),
+        ([kind::QUANTIFIER, 0, 0, 0, 0, 0, 2], [&[x], &[]]),
+        ([kind::IF_THEN_ELSE, 0, 1, 2, 0, 0, 0], [&[], &[]]),
+        ([kind::LET, x, 1, 2, 0, 0, 0], [&[], &[]]),
     ] {
-        let (number, grown_book) = grown(&book, &Growth::term(record, lists)).expect("accepted");
+        let answer = grown(&m.book(), &Growth::term(record, lists));
+        let (number, grown_book) = answer.expect("accepted");
         assert_eq!(number, 4);
-        let m = records(&grown_book);
         let mut expected = record;
-        let mut start = old;
-        for (field, list) in ranges.iter().zip(lists) {
-            let count = list.len() as u32;
-            // An empty range starts at 0.
-            expected[*field] = if count == 0 { 0 } else { start };
-            expected[field + 1] = count;
-            start += count;
+        let mut entries = old.clone();
+        for (field, list) in range_fields(record[0]).iter().zip(lists) {
+            let start = if list.is_empty() { 0 } else { entries.len() };
+            expected[*field] = start as u32;
+            expected[field + 1] = list.len() as u32;
+            entries.extend(list);
         }
+        let m = records(&grown_book);
         assert_eq!(m.terms[4], expected);
-        assert_eq!(m.lists[old as usize..], *entries);
+        assert_eq!(m.lists, entries);
     }
 }
 
 #[test]
 fn numbers_of_lists_are_little_endian_and_appended_byte_for_byte() {
-    let m = with_terms(0x0201 + 1);
-    let mut m = m;
+    let mut m = with_terms(0x0201 + 1);
     m.name("f");
     let list = vec![0x01, 0x02, 0x00, 0x00];
     let growth = Growth::Term([kind::BUILT_IN, 0, 0, 0, 0, 0, 0], [list.clone(), vec![]]);

@@ -104,6 +104,7 @@ fn seven_comes_before_all_of_the_new_book() {
     }
 }
 
+/// Each growth is accepted; with one more at one of its numbers it is not.
 #[test]
 fn four_is_for_every_other_number_out_of_range() {
     let mut m = tiny();
@@ -111,46 +112,34 @@ fn four_is_for_every_other_number_out_of_range() {
     m.function("f", &[], INT);
     m.pattern(&[]);
     let book = m.book();
-    let names = m.names.len() as u32;
-    let one = |kind, field| [kind, field, 0, 0, 0, 0, 0];
+    let last = m.names.len() as u32 - 1;
+    let term = |kind, field, lists| Growth::term([kind, field, 0, 0, 0, 0, 0], lists);
+    let forall = |lists| Growth::term([kind::QUANTIFIER, 1, 0, 0, 0, 0, 1], lists);
     for (inside, outside) in [
         (
-            Growth::Constant([names - 1, typ]),
-            Growth::Constant([names, typ]),
+            Growth::Constant([last, typ]),
+            Growth::Constant([last + 1, typ]),
         ),
         (Growth::Constant([0, typ]), Growth::Constant([0, typ + 1])),
-        (Growth::Node([0, 1, names]), Growth::Node([0, 1, names + 1])),
+        (
+            Growth::Node([0, 1, last + 1]),
+            Growth::Node([0, 1, last + 2]),
+        ),
         (Growth::Equality([0, 0, 1]), Growth::Equality([0, 1, 1])),
         (
             Growth::record(0, 1, typ, None),
             Growth::record(0, 1, typ + 1, None),
         ),
-        (
-            Growth::term(TRUE, [&[], &[]]),
-            Growth::term(one(kind::BOOLEAN, 2), [&[], &[]]),
-        ),
-        (
-            Growth::term(one(kind::ID, 0), [&[], &[]]),
-            Growth::term(one(kind::ID, 1), [&[], &[]]),
-        ),
-        (
-            Growth::term(one(kind::FUNCTION, 0), [&[1], &[]]),
-            Growth::term(one(kind::FUNCTION, 1), [&[1], &[]]),
-        ),
-        (
-            Growth::term([8, 1, 0, 0, 0, 0, 1], [&[0], &[0]]),
-            Growth::term([8, 1, 0, 0, 0, 0, 1], [&[1], &[0]]),
-        ),
-        (
-            Growth::term([8, 1, 0, 0, 0, 0, 1], [&[0], &[0]]),
-            Growth::term([8, 1, 0, 0, 0, 0, 1], [&[0], &[1]]),
-        ),
+        (term(0, 1, [&[], &[]]), term(0, 2, [&[], &[]])),
+        (term(3, 0, [&[], &[]]), term(3, 1, [&[], &[]])),
+        (term(4, last, [&[1], &[]]), term(4, last + 1, [&[1], &[]])),
+        (term(5, 0, [&[1], &[]]), term(5, 1, [&[1], &[]])),
+        (forall([&[0], &[0]]), forall([&[1], &[0]])),
+        (forall([&[0], &[0]]), forall([&[0], &[1]])),
     ] {
         assert!(grown(&book, &inside).is_ok(), "{inside:?}");
         assert_eq!(refusal(&book, &outside), FIELD, "{outside:?}");
     }
-    // Extend with equality may not name the constant that record would append.
-    assert_eq!(refusal(&book, &Growth::Equality([0, u32::MAX, 1])), FIELD);
 }
 
 #[test]
