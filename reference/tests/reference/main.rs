@@ -11,6 +11,7 @@ mod layout;
 mod listing;
 mod listing_limits;
 mod listing_refusals;
+mod lists_of_calls;
 mod made_books;
 mod naive_listing;
 mod naive_nodes;

@@ -8,7 +8,7 @@ use leskofar_reference::random::Random;
 use leskofar_reference::random_books::{random_book, Counts};
 
 /// A book's records.
-fn records(book: &[u8]) -> Maker {
+pub fn records(book: &[u8]) -> Maker {
     Maker::of(Book::new(book).expect("a table of contents"))
 }
 

@@ -88,7 +88,8 @@ fn term(random: &mut Random, m: &Maker) -> Growth {
     Growth::Term(record, lists)
 }
 
-fn growth(random: &mut Random, m: &Maker) -> Growth {
+/// A growth of a book with these records.
+pub fn growth(random: &mut Random, m: &Maker) -> Growth {
     let [terms, names] = [m.terms.len(), m.names.len()];
     let types = 2 + m.types.len();
     let parent = number(random, m.contexts.len() + 1);

@@ -90,15 +90,20 @@ fn seven_is_for_a_parent_or_term_outside_and_nothing_else() {
 #[test]
 fn seven_comes_before_all_of_the_new_book() {
     let mut m = tiny();
+    for _ in 0..Section::Contexts.most() {
+        let term = m.boolean(true);
+        m.context(0, term);
+    }
     m.names.resize(Section::Names.most(), [0, 1]);
     m.lists.resize(Section::Lists.most(), 0);
     let book = m.book();
+    let [node, term] = [m.contexts.len(), m.terms.len()].map(|count| count as u32);
     for growth in [
-        Growth::Node([1, 0, u32::MAX]),
-        Growth::extend(1, 0, Some("\n")),
-        Growth::Equality([1, u32::MAX, 0]),
-        Growth::record(0, 2, u32::MAX, Some("\n")),
-        Growth::trace_point(1, "\n"),
+        Growth::Node([node + 1, 0, u32::MAX]),
+        Growth::extend(node + 1, 0, Some("\n")),
+        Growth::Equality([node + 1, u32::MAX, 0]),
+        Growth::record(0, term, u32::MAX, Some("\n")),
+        Growth::trace_point(node + 1, "\n"),
     ] {
         assert_eq!(refusal(&book, &growth), NOT_IN_BOOK);
     }
