@@ -1,10 +1,11 @@
 //! Speed of the writer as a ratio to the reference, both measured in this run:
 //! each call on a small, a middle and the largest book that it can be made on,
-//! and on books of which one is twice as long as the one before.
+//! on books of which one is twice as long as the one before, and a search among
+//! names that share their letters, whose time the book's length does not bound.
 
 use crate::bench::three_books;
 use crate::library::book_test;
-use crate::made_growths::{each_call, CALL_NAMES};
+use crate::made_growths::{each_call, extend, CALL_NAMES};
 use crate::timing::{fastest, percent, ratio};
 use crate::writer_books::filled_up;
 use crate::writer_call::{Growth, LARGEST_BOOK};
@@ -17,6 +18,11 @@ use std::hint::black_box;
 
 /// Which part of every section the books fill that show how time grows.
 const PARTS: [usize; 4] = [16, 8, 4, 2];
+/// Letters that all names share in books where the search is long; as many are
+/// left for the text.
+const SHARED: [usize; 4] = [512, 1024, 2048, 4096];
+const LETTER: u8 = b'a';
+const LAST: u8 = b'b';
 /// A text that is looked for among all names, and not found.
 const TEXT: &[u8] = b"not among the others";
 /// The most records that a call appends to a section: letters.
@@ -38,6 +44,15 @@ fn part_of_the_largest(part: usize) -> Maker {
     for section in sections {
         m = filled_up(m, section, section.most() / part);
     }
+    m
+}
+
+/// As many names as leave room for one, all with the same letters.
+fn names_alike(letters: usize) -> Maker {
+    let mut m = Maker::default();
+    m.letters = vec![LETTER; letters];
+    let names = Section::Names.most() - 1;
+    m.names = vec![[0, letters as u32]; names];
     m
 }
 
@@ -105,4 +120,13 @@ pub fn run() {
         (name, part_of_the_largest(part))
     });
     bench_books(parts.to_vec());
+    for letters in SHARED {
+        let mut m = names_alike(letters);
+        let free = with_free_terms(&mut m);
+        let mut trace = vec![LETTER; letters];
+        trace[letters - 1] = LAST;
+        let name = format!("names that share {letters} letters");
+        let growth = extend(0, free, Some(&trace));
+        bench("extend", &name, &growth, &m.book());
+    }
 }
