@@ -11,7 +11,7 @@ use leskofar_reference::writer::{self as reference, TermHanded};
 use std::hint::black_box;
 
 /// A call but for its book and buffers.
-#[derive(Clone, Debug)]
+#[derive(Clone, Debug, PartialEq)]
 pub enum Growth {
     Name(Vec<u8>),
     /// Name and type.
@@ -31,7 +31,7 @@ pub enum Growth {
 }
 
 /// A flag is any number; where it is 0 no trace is given.
-#[derive(Clone, Debug)]
+#[derive(Clone, Debug, PartialEq)]
 pub struct Trace {
     pub flag: u32,
     pub text: Vec<u8>,
@@ -137,8 +137,10 @@ impl Growth {
     pub fn compare(&self, given: &Given) -> Result<Grown, String> {
         let theirs = grown(given, given.book, |b| self.on_reference(b));
         let book = Fenced::holding(given.book);
-        let ours = grown(given, book.content(), |b| self.on_library(b));
-        let stayed = *black_box(&book) == Fenced::holding(given.book);
+        let handed = self.clone();
+        let ours = grown(given, book.content(), |b| handed.on_library(b));
+        let stayed =
+            *black_box(&book) == Fenced::holding(given.book) && *black_box(&handed) == *self;
         let what = if ours.answer != theirs.answer {
             format!("{:?}, expected {:?}", ours.answer, theirs.answer)
         } else if ours.new_book != theirs.new_book {
@@ -146,7 +148,10 @@ impl Growth {
         } else if ours.scratch != theirs.scratch {
             format!("another scratch after {:?}", ours.answer)
         } else if !stayed {
-            format!("another book received after {:?}", ours.answer)
+            format!(
+                "another book, text or list received after {:?}",
+                ours.answer
+            )
         } else if let Some(lost) = ours.book().and_then(|new| not_kept(given.book, new)) {
             format!("{lost} after {:?}", ours.answer)
         } else {
