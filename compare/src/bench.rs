@@ -4,6 +4,7 @@ use crate::bench_listing;
 use crate::bench_nodes;
 use crate::bench_sessions;
 use crate::bench_table::{head, row, LONG, SHORT, TERMS};
+use crate::bench_writer;
 use crate::library;
 use crate::made_books::full;
 use crate::made_costly::overlapping;
@@ -28,20 +29,21 @@ const NUMBERS: [(&str, i64); 2] = [
 /// Entries that all ranges of a book share.
 const ENTRIES: [usize; 4] = [256, 512, 1024, 2048];
 
-fn bench_book_test() {
+/// A small book, a middle one, and one with so many records.
+pub fn three_books(largest: Counts) -> [(&'static str, Maker); 3] {
     let mut random = Random::new(SEED);
     let middle = Counts::random(&mut random, MIDDLE);
-    let mut books = vec![
-        ("a small book".to_string(), full().book()),
-        (
-            "a middle book".to_string(),
-            random_book(&mut random, middle).book(),
-        ),
-        (
-            "the largest book".to_string(),
-            random_book(&mut random, Counts::limits()).book(),
-        ),
-    ];
+    [
+        ("a small book", full()),
+        ("a middle book", random_book(&mut random, middle)),
+        ("the largest book", random_book(&mut random, largest)),
+    ]
+}
+
+fn bench_book_test() {
+    let made = three_books(Counts::limits());
+    let made = made.map(|(name, m)| (name.to_string(), m.book()));
+    let mut books = made.to_vec();
     books.extend(ENTRIES.map(|entries| {
         let name = format!("ranges that share {entries} entries");
         (name, overlapping(entries).book())
@@ -105,4 +107,5 @@ pub fn run() {
     bench_listing::run();
     bench_sessions::run();
     bench_nodes::run();
+    bench_writer::run();
 }

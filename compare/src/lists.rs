@@ -1,16 +1,19 @@
-//! Lists of session calls on one book. What is present and owed is taken from
+//! Lists of session calls on one book, the newest where it grows. What is present and owed is taken from
 //! the accepted calls alone, and a reader of their text holds the live levels
 //! against what the book alone gives; where the book's names are sane, the
 //! strict reader of SMT-LIB reads it too. In between come calls on foreign
-//! images, damaged books and short scratches, which leave the list alone.
+//! images, damaged books and short scratches, which leave the list alone; and
+//! the book may grow.
 
 use crate::calls::{Call, Given, Left, Measure};
 use crate::damaged_images::foreign;
 use crate::random_calls::random_call;
+use crate::sane::is_sane;
 use crate::seen::Seen;
 use crate::session_library::{self as library, PROVED, UNPROVED};
 use crate::session_shapes::{cyclic, Travelled};
 use crate::strict::Strict;
+use leskofar_reference::book::Book;
 use leskofar_reference::book_test::{check, SCRATCH_SIZE};
 use leskofar_reference::commands::LINE_END;
 use leskofar_reference::damage::damaged;
@@ -26,10 +29,9 @@ use std::collections::BTreeSet;
 const LONGER: [usize; 4] = [1, 2, 9, 4096];
 const SHORT_SCRATCHES: [usize; 3] = [0, 1, SCRATCH_SIZE - 1];
 
-pub struct List<'l, 'b> {
-    maker: &'l Maker,
-    book: &'b [u8],
-    program: &'l Program<'b>,
+pub struct List {
+    maker: Maker,
+    book: Vec<u8>,
     cyclic: BTreeSet<usize>,
     /// As the library left it.
     image: Vec<u8>,
@@ -41,27 +43,65 @@ pub struct List<'l, 'b> {
     owed: Owed,
 }
 
-impl<'l, 'b> List<'l, 'b> {
-    /// A list without calls; `program` is what the maker's `book` holds.
-    pub fn new(maker: &'l Maker, book: &'b [u8], program: &'l Program<'b>) -> List<'l, 'b> {
+impl List {
+    /// A list without calls, on a good book.
+    pub fn new(maker: &Maker) -> Result<List, String> {
+        let book = maker.book();
+        let program = check(&book).map_err(|refusal| format!("refused {refusal}"))?;
         let mut image = vec![0; IMAGE_SIZE];
         library::fresh(&mut image);
-        List {
-            maker,
-            book,
-            program,
-            cyclic: cyclic(program),
+        Ok(List {
+            maker: maker.clone(),
+            cyclic: cyclic(&program),
             image,
             reader: Reader::default(),
-            strict: Strict::new(book, program),
+            strict: Strict::new(&book, &program),
             node: ROOT as u32,
             goal: None,
             owed: Owed::Nothing,
-        }
+            book,
+        })
     }
 
     pub fn image(&self) -> &[u8] {
         &self.image
+    }
+
+    /// The records of the newest book, and the book.
+    pub fn maker(&self) -> &Maker {
+        &self.maker
+    }
+
+    pub fn book(&self) -> &[u8] {
+        &self.book
+    }
+
+    pub fn node(&self) -> u32 {
+        self.node
+    }
+
+    pub fn goal(&self) -> Option<u32> {
+        self.goal
+    }
+
+    pub fn owed(&self) -> Owed {
+        self.owed
+    }
+
+    /// Whether a live command begins so.
+    pub fn has_live(&self, start: &[u8]) -> bool {
+        let mut live = self.reader.levels().iter().flatten();
+        live.any(|command| command.starts_with(start))
+    }
+
+    /// Goes on with a grown book, whose functions and axioms are the old ones:
+    /// what is live is what the new book gives too.
+    pub fn go_on(&mut self, book: &[u8]) -> Result<(), String> {
+        self.book = book.to_vec();
+        self.maker = Maker::of(Book::new(book).ok_or("no table of contents")?);
+        let program = decoded(book)?;
+        self.strict = self.strict.take().filter(|_| is_sane(book, &program));
+        self.read(&[]).map(|_| ())
     }
 
     /// A random call, at times after one that is no part of the list.
@@ -75,8 +115,8 @@ impl<'l, 'b> List<'l, 'b> {
         if random.one_in(AT_TIMES) {
             self.foreign_call(random, other, measure, seen)?;
         }
-        let call = random_call(random, self.program, self.owed);
-        let (text, reason) = measure.lengths(&call, self.book, &self.image);
+        let call = random_call(random, &self.maker, self.owed);
+        let (text, reason) = measure.lengths(&call, &self.book, &self.image);
         let [text, reason] = [text, reason].map(|length| room(random, length));
         self.step(&call, text, reason, seen).map(|_| ())
     }
@@ -90,7 +130,7 @@ impl<'l, 'b> List<'l, 'b> {
         seen: &mut Seen,
     ) -> Result<Left, String> {
         let left = call.compare(&Given {
-            book: self.book,
+            book: &self.book,
             image: &self.image,
             scratch: SCRATCH_SIZE,
             text,
@@ -144,15 +184,16 @@ impl<'l, 'b> List<'l, 'b> {
         }
         let levels = self.read(left.text())?;
         seen.levels += 1;
+        let program = decoded(&self.book)?;
         if let Some(strict) = &mut self.strict {
             seen.strict_lines += strict.read(left.text())?;
             if let Call::Ask { goal, .. } = call {
-                seen.strict_prints += strict.read_prints(self.book, self.program, *goal)?;
+                seen.strict_prints += strict.read_prints(&self.book, &program, *goal)?;
             }
         }
         if let Call::Move { .. } | Call::Ask { .. } = call {
             let travelled = Travelled {
-                program: self.program,
+                program: &program,
                 cyclic: &self.cyclic,
                 from,
                 to: self.node,
@@ -171,7 +212,7 @@ impl<'l, 'b> List<'l, 'b> {
         self.reader
             .read(text)
             .map_err(|lost| format!("the reader is lost, {lost:?},"))?;
-        let levels = expected_levels(self.book, self.node, self.goal)
+        let levels = expected_levels(&self.book, self.node, self.goal)
             .ok_or("the book gives no levels for the node and goal")?;
         if self.reader.levels() == levels {
             Ok(levels)
@@ -195,9 +236,9 @@ impl<'l, 'b> List<'l, 'b> {
             seen.images.add(manner);
             image = changed;
         }
-        let mut book = self.book.to_vec();
+        let mut book = self.book.clone();
         if random.one_in(OFTEN) {
-            book = damaged(random, self.maker);
+            book = damaged(random, &self.maker);
         }
         let scratch = if random.one_in(RARELY) {
             random.pick(&SHORT_SCRATCHES)
@@ -205,7 +246,7 @@ impl<'l, 'b> List<'l, 'b> {
             SCRATCH_SIZE + random.pick(&LONGER)
         };
         let owed = Session::read(&image).map_or(Owed::Nothing, |session| session.owed);
-        let call = random_call(random, self.program, owed);
+        let call = random_call(random, &self.maker, owed);
         let (text, reason) = measure.lengths(&call, &book, &image);
         let [text, reason] = [text, reason].map(|length| room(random, length));
         let left = call.compare(&Given {
@@ -225,9 +266,13 @@ pub fn on_book<T>(
     m: &Maker,
     run: impl FnOnce(&mut List) -> Result<T, String>,
 ) -> Result<T, String> {
-    let book = m.book();
-    let program = check(&book).map_err(|refusal| format!("refused {refusal}"))?;
-    run(&mut List::new(m, &book, &program))
+    run(&mut List::new(m)?)
+}
+
+/// What a good book holds.
+fn decoded(book: &[u8]) -> Result<Program<'_>, String> {
+    let book = Book::new(book).ok_or("no table of contents")?;
+    Ok(Program::decode(book))
 }
 
 /// Levels as their texts, which are ASCII.
@@ -240,7 +285,7 @@ fn readable(levels: &[Level]) -> String {
 }
 
 /// A buffer for a text: just long enough, longer, too short by one, or none.
-fn room(random: &mut Random, length: usize) -> usize {
+pub fn room(random: &mut Random, length: usize) -> usize {
     if random.one_in(RARELY) {
         length.saturating_sub(1)
     } else if random.one_in(HARDLY_EVER) {

@@ -48,7 +48,7 @@ impl Tour {
     pub fn on(&mut self, m: &Maker, calls: &[Call]) -> Result<Vec<usize>, String> {
         let book = m.book();
         let program = check(&book).map_err(|refusal| format!("refused {refusal}"))?;
-        let mut list = List::new(m, &book, &program);
+        let mut list = List::new(m)?;
         let mut from = ROOT;
         let mut declared = Vec::new();
         for call in calls {

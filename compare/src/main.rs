@@ -10,6 +10,7 @@ mod bench_literals;
 mod bench_nodes;
 mod bench_sessions;
 mod bench_table;
+mod bench_writer;
 mod book;
 mod buffers;
 mod calls;
@@ -24,6 +25,7 @@ mod literal_shapes;
 mod literal_tours;
 mod made_books;
 mod made_costly;
+mod made_growths;
 mod made_literals;
 mod made_names;
 mod made_rules;
@@ -64,6 +66,18 @@ mod strict_lists;
 mod strict_prints;
 mod tally;
 mod timing;
+mod writer;
+mod writer_books;
+mod writer_call;
+mod writer_edges;
+mod writer_events;
+mod writer_library;
+mod writer_limits;
+mod writer_lists;
+mod writer_met;
+mod writer_names;
+mod writer_random;
+mod writer_terms;
 
 use std::process::ExitCode;
 
@@ -93,6 +107,7 @@ fn main() -> ExitCode {
     negatives::run(&mut tally);
     strict_lists::run(&mut tally);
     nodes::run(&mut tally);
+    writer::run(&mut tally);
     script::run(&mut tally);
     if tally.close() {
         ExitCode::SUCCESS

@@ -2,7 +2,7 @@
 
 use crate::calls::Call;
 use leskofar_reference::image::Owed;
-use leskofar_reference::program::Program;
+use leskofar_reference::maker::Maker;
 use leskofar_reference::random::{Random, AT_TIMES, HARDLY_EVER, OFTEN, RARELY};
 use leskofar_reference::session::UNSAT;
 
@@ -28,7 +28,7 @@ const EVERY_BYTE: usize = 1024;
 const CALLS: usize = 4;
 
 /// A call on a session that owes so much.
-pub fn random_call(random: &mut Random, program: &Program, owed: Owed) -> Call {
+pub fn random_call(random: &mut Random, m: &Maker, owed: Owed) -> Call {
     let turn = match owed {
         _ if random.one_in(RARELY) => random.below(CALLS),
         Owed::Nothing => random.below(2),
@@ -37,11 +37,11 @@ pub fn random_call(random: &mut Random, program: &Program, owed: Owed) -> Call {
     };
     match turn {
         0 => Call::Move {
-            node: node(random, program),
+            node: node(random, m),
         },
         1 => Call::Ask {
-            node: node(random, program),
-            goal: goal(random, program),
+            node: node(random, m),
+            goal: goal(random, m),
         },
         2 => Call::Reply {
             ok: flag(random),
@@ -56,8 +56,8 @@ pub fn random_call(random: &mut Random, program: &Program, owed: Owed) -> Call {
 }
 
 /// A node, at times one of the last, which are often deep.
-fn node(random: &mut Random, program: &Program) -> u32 {
-    let nodes = program.nodes().len();
+fn node(random: &mut Random, m: &Maker) -> u32 {
+    let nodes = m.contexts.len();
     if random.one_in(AT_TIMES) {
         nodes.saturating_sub(random.below(2)) as u32
     } else {
@@ -66,8 +66,8 @@ fn node(random: &mut Random, program: &Program) -> u32 {
 }
 
 /// A term, at times the last, which has often others inside.
-fn goal(random: &mut Random, program: &Program) -> u32 {
-    let terms = program.terms.len();
+fn goal(random: &mut Random, m: &Maker) -> u32 {
+    let terms = m.terms.len();
     if terms > 0 && random.one_in(AT_TIMES) {
         terms as u32 - 1
     } else {

@@ -208,7 +208,7 @@ fn random_list(
     let m = literal_book(random);
     let book = m.book();
     let program = check(&book).map_err(|refusal| format!("refused {refusal}"))?;
-    let mut list = List::new(&m, &book, &program);
+    let mut list = List::new(&m)?;
     for _ in 0..=random.below(CALLS) {
         list.random_step(random, other, measure, seen)?;
         let session = Session::read(list.image()).ok_or("no session")?;

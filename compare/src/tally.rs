@@ -77,7 +77,8 @@ impl<K: Copy + Display + Ord> Met<K> {
         }
     }
 
-    fn said(&self) -> String {
+    /// All that was met.
+    pub fn said(&self) -> String {
         let total: usize = self.0.values().sum();
         let each: Vec<String> = self
             .0

@@ -63,13 +63,14 @@ impl<'p, 'b> REngine<'p, 'b> {
 
     /// A copy to try a call on; the original doesn't change.
     pub fn fork(&self) -> REngine<'p, 'b> {
+        self.on(self.walk.program)
+    }
+
+    /// A copy on a program that begins with this one.
+    pub fn on<'q, 'c>(&self, program: &'q Program<'c>) -> REngine<'q, 'c> {
         REngine {
             stack: self.stack.clone(),
-            walk: Walk::new(
-                self.walk.program,
-                self.walk.declared.clone(),
-                Sink::unlimited(),
-            ),
+            walk: Walk::new(program, self.walk.declared.clone(), Sink::unlimited()),
         }
     }
 

@@ -30,6 +30,7 @@ pub mod sink;
 pub mod smtlib;
 pub mod stack;
 pub mod walk;
+pub mod writer;
 
 pub use book_test::book_test;
 pub use image::fresh_image;

@@ -2,7 +2,7 @@
 //! written too; only the table of contents always fits.
 
 use crate::book::{
-    kind, Section, AXIOM_FIELDS, BOOL, CONSTANT_FIELDS, CONTENTS_SIZE, CONTEXT_FIELDS,
+    kind, Book, Section, AXIOM_FIELDS, BOOL, CONSTANT_FIELDS, CONTENTS_SIZE, CONTEXT_FIELDS,
     FIRST_USER_TYPE, FUNCTION_FIELDS, INT, NAME_FIELDS, NO_TERM, PATTERN_FIELDS, TERM_FIELDS,
     TYPE_FIELDS,
 };
@@ -23,6 +23,22 @@ pub struct Maker {
 }
 
 impl Maker {
+    /// The records of a book that is laid out.
+    pub fn of(book: Book) -> Maker {
+        Maker {
+            letters: book.letters().to_vec(),
+            names: book.records(Section::Names).collect(),
+            types: book.records(Section::Types).collect(),
+            constants: book.records(Section::Constants).collect(),
+            functions: book.records(Section::Functions).collect(),
+            axioms: book.records(Section::Axioms).collect(),
+            patterns: book.records(Section::Patterns).collect(),
+            terms: book.records(Section::Terms).collect(),
+            contexts: book.records(Section::Contexts).collect(),
+            lists: book.records(Section::Lists).map(|[entry]| entry).collect(),
+        }
+    }
+
     /// The book's bytes.
     pub fn book(&self) -> Vec<u8> {
         let bodies = Section::ALL.map(|section| self.body(section));

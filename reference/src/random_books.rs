@@ -15,7 +15,12 @@ impl Counts {
     const WEIGHTS: [usize; Section::ALL.len()] = [4, 2, 1, 1, 1, 1, 1, 6, 2, 12];
 
     pub fn limits() -> Counts {
-        Counts(Section::ALL.map(Section::most))
+        Counts::short_of_limits(0)
+    }
+
+    /// So many records less than each section may have.
+    pub fn short_of_limits(by: usize) -> Counts {
+        Counts(Section::ALL.map(|section| section.most() - by))
     }
 
     /// Each section up to its weight times `size`, within its limit.

@@ -1,31 +1,17 @@
-//! Demand 3 on random lists of calls: what is live at each level, and the
-//! engine of the Dafny bodies beside the session.
+//! Demand 3 on a list of calls: what is live at each level, and the engine of
+//! the Dafny bodies beside the session.
 
 use crate::desk::{Answer, Desk};
-use leskofar_reference::book_test::check;
 use leskofar_reference::engine::REngine;
 use leskofar_reference::image::Owed;
 use leskofar_reference::program::Program;
 use leskofar_reference::random::{Random, AT_TIMES, OFTEN, RARELY};
-use leskofar_reference::random_books::{random_book, Counts};
 use leskofar_reference::refusal::{
     MISSING_AXIOM, NOT_IN_BOOK, NO_MODEL_OWED, NO_REPLY_OWED, REPLY_UNSAT, SOMETHING_OWED, TOO_LONG,
 };
 use leskofar_reference::stack::{expected_levels, Level, Reader};
 use std::collections::BTreeMap;
 
-const SEED: u64 = 513;
-/// Sizes of books, the number of lists, the calls in each, and the buffers.
-const RUNS: [(usize, usize, usize, usize); 5] = [
-    (1, 1_500, 12, 1 << 12),
-    (3, 1_500, 20, 1 << 12),
-    (12, 1_500, 24, 1 << 14),
-    (60, 100, 30, 1 << 18),
-    (400, 10, 30, 1 << 22),
-];
-const LISTS_AT_LIMITS: usize = 6;
-const CALLS_AT_LIMITS: usize = 20;
-const BUFFERS_AT_LIMITS: usize = 1 << 22;
 /// Buffers that are at times too short.
 const NARROW_TEXT: usize = 100;
 const NARROW_REASON: usize = 2;
@@ -39,7 +25,7 @@ const REPLIES: [&[u8]; 5] = [b"unsat", b"unsat", b"sat", b"unknown", b"\xFFunsat
 
 /// A list of calls so far. What is present and owed comes from the accepted
 /// calls alone, never from the session's image.
-struct Run<'p, 'b> {
+pub struct Run<'p, 'b> {
     program: &'p Program<'b>,
     desk: Desk,
     engine: REngine<'p, 'b>,
@@ -48,11 +34,33 @@ struct Run<'p, 'b> {
     goal: Option<u32>,
     owed: Owed,
     /// How often each answer came; 0 for accepted.
-    answers: BTreeMap<u32, usize>,
+    pub answers: BTreeMap<u32, usize>,
 }
 
-impl Run<'_, '_> {
-    fn call(&mut self, random: &mut Random, buffers: usize) {
+impl<'p, 'b> Run<'p, 'b> {
+    /// A list without calls; the program is the book's.
+    pub fn new(book: &[u8], program: &'p Program<'b>) -> Run<'p, 'b> {
+        Run {
+            program,
+            desk: Desk::with_book(book.to_vec()),
+            engine: REngine::new(program),
+            reader: Reader::default(),
+            node: 0,
+            goal: None,
+            owed: Owed::Nothing,
+            answers: BTreeMap::new(),
+        }
+    }
+
+    /// The same list, on a book that this one has grown to.
+    pub fn go_on(&mut self, book: &[u8], program: &'p Program<'b>) {
+        self.program = program;
+        self.engine = self.engine.on(program);
+        self.desk.book = book.to_vec();
+    }
+
+    /// A random call with buffers of this size, or narrow ones.
+    pub fn call(&mut self, random: &mut Random, buffers: usize) {
         let is_narrow = random.one_in(RARELY);
         self.desk.text_size = if is_narrow {
             random.below(NARROW_TEXT)
@@ -243,65 +251,4 @@ fn unproved(reason: &[u8]) -> Answer {
         text: POPS.into(),
         reason: reason.to_vec(),
     }
-}
-
-/// Runs a list on a random book and adds up its answers.
-fn run_list(
-    random: &mut Random,
-    counts: Counts,
-    calls: usize,
-    buffers: usize,
-    sum: &mut BTreeMap<u32, usize>,
-) {
-    let book = random_book(random, counts).book();
-    let program = check(&book).expect("random books pass");
-    let mut run = Run {
-        program: &program,
-        desk: Desk::with_book(book.clone()),
-        engine: REngine::new(&program),
-        reader: Reader::default(),
-        node: 0,
-        goal: None,
-        owed: Owed::Nothing,
-        answers: BTreeMap::new(),
-    };
-    for _ in 0..calls {
-        run.call(random, buffers);
-    }
-    for (answer, times) in run.answers {
-        *sum.entry(answer).or_default() += times;
-    }
-}
-
-#[test]
-fn random_lists_of_calls() {
-    let mut random = Random::new(SEED);
-    let mut answers = BTreeMap::new();
-    for (size, lists, calls, buffers) in RUNS {
-        for _ in 0..lists {
-            let counts = Counts::random(&mut random, size);
-            run_list(&mut random, counts, calls, buffers, &mut answers);
-        }
-    }
-    // 20 never comes; every other number that such lists can have does.
-    let met: Vec<u32> = answers.keys().copied().collect();
-    assert_eq!(met, [0, 7, 8, 9, 10, 21, 22, 23], "{answers:?}");
-    assert!(answers.values().all(|times| *times > 100), "{answers:?}");
-}
-
-#[test]
-fn lists_of_calls_on_books_at_every_limit() {
-    let mut random = Random::new(SEED);
-    let mut answers = BTreeMap::new();
-    for _ in 0..LISTS_AT_LIMITS {
-        let counts = Counts::limits();
-        run_list(
-            &mut random,
-            counts,
-            CALLS_AT_LIMITS,
-            BUFFERS_AT_LIMITS,
-            &mut answers,
-        );
-    }
-    assert!(answers[&0] > LISTS_AT_LIMITS, "{answers:?}");
 }

@@ -1,0 +1,74 @@
+//! Books for growths: with records enough that every call is accepted, and
+//! filled up to a count of one section.
+
+use crate::session_books::session_book;
+use leskofar_reference::book::{kind, Section, INT, NO_TERM};
+use leskofar_reference::maker::Maker;
+use leskofar_reference::random::{Random, HARDLY_EVER, OFTEN};
+use leskofar_reference::random_books::{random_book, Counts};
+
+/// The usual sizes of random books, and a rare one.
+const SIZES: [usize; 5] = [0, 1, 2, 4, 8];
+const LARGE: usize = 60;
+/// The most terms that are made free, and records that a section lacks, which
+/// is less than so many.
+const FREE: usize = 4;
+const LACKING: usize = 4;
+
+/// A name `n`, a constant `c`, two terms that nothing refers to.
+pub fn tiny() -> Maker {
+    let mut m = Maker::default();
+    m.name("n");
+    m.constant("c", INT);
+    m.boolean(true);
+    m.boolean(false);
+    m
+}
+
+/// The book with so many records of a section, the new ones harmless. It has
+/// a name.
+pub fn filled_up(mut m: Maker, section: Section, count: usize) -> Maker {
+    match section {
+        Section::Letters => m.letters.resize(count, b'x'),
+        Section::Names => m.names.resize(count, [0, 0]),
+        Section::Types => m.types.resize(count, [0]),
+        Section::Constants => m.constants.resize(count, [0, INT]),
+        Section::Functions => m.functions.resize(count, [0, INT, 0, 0, 0, 0]),
+        Section::Axioms => m.axioms.resize(count, [NO_TERM, 0, 0]),
+        Section::Patterns => m.patterns.resize(count, [0, 0]),
+        Section::Terms => m.terms.resize(count, [kind::BOOLEAN, 1, 0, 0, 0, 0, 0]),
+        Section::Contexts => {
+            while m.contexts.len() < count {
+                let term = m.boolean(true);
+                m.context(0, term);
+            }
+        }
+        Section::Lists => m.lists.resize(count, 0),
+    }
+    m
+}
+
+/// A random good book, with some terms that nothing refers to, at times
+/// full or nearly so in one section.
+pub fn growing_book(random: &mut Random) -> Maker {
+    let mut m = if random.one_in(OFTEN) {
+        session_book(random)
+    } else {
+        let is_large = random.one_in(HARDLY_EVER);
+        let size = if is_large { LARGE } else { random.pick(&SIZES) };
+        let counts = Counts::random(random, size);
+        random_book(random, counts)
+    };
+    for _ in 0..random.up_to(FREE) {
+        m.boolean(true);
+    }
+    let section = random.pick(&Section::ALL);
+    // A context takes a term.
+    let has_room = m.terms.len() + Section::Contexts.most() <= Section::Terms.most();
+    let count = section.most() - random.below(LACKING);
+    let fits = m.count(section) <= count && (section != Section::Contexts || has_room);
+    if random.one_in(OFTEN) && fits && !m.names.is_empty() {
+        m = filled_up(m, section, count);
+    }
+    m
+}
