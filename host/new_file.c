@@ -112,22 +112,34 @@ static int close_behind(int descriptor, bool is_done) {
     return error == 0 && !is_closed ? errno : error;
 }
 
-/* `before` is the file whose place is taken, NULL where there is none. The bytes are on the disk before the name is. */
+/* Fills a new file of this name, and puts it into its place. The bytes are on the disk before the name is. */
+static int fill(int descriptor, const char *name, const char *path, const struct stat *before, const uint8_t *bytes, size_t length) {
+    bool has_permissions = before == NULL || fchmod(descriptor, before->st_mode & PERMISSIONS) == 0;
+    int error = close_behind(descriptor, has_permissions && write_all(descriptor, bytes, length) && fsync(descriptor) == 0);
+    if (error == 0 && rename(name, path) != 0) {
+        error = errno;
+    }
+    if (error != 0) {
+        (void)unlink(name); /* it is ours, and nobody has it yet */
+    }
+    return error;
+}
+
+/*
+ * `before` is the file whose place is taken, NULL where there is none. A signal that would end the program waits meanwhile, so that no
+ * part of a file is left beside.
+ */
 static int write_beside(const char *path, const struct stat *before, const uint8_t *bytes, size_t length) {
     size_t room = strlen(path) + MORE_LETTERS;
     char *name = malloc(room);
-    int descriptor = name == NULL ? -1 : open_beside(path, name, room);
-    int error = descriptor < 0 ? errno : 0;
-    if (descriptor >= 0) {
-        error = close_behind(descriptor, (before == NULL || fchmod(descriptor, before->st_mode & PERMISSIONS) == 0) &&
-                                             write_all(descriptor, bytes, length) && fsync(descriptor) == 0);
-        if (error == 0 && rename(name, path) != 0) {
-            error = errno;
-        }
-        if (error != 0) {
-            (void)unlink(name); /* it is ours, and nobody has it yet */
-        }
+    if (name == NULL || !signals_hold()) {
+        int why = errno;
+        free(name);
+        return why;
     }
+    int descriptor = open_beside(path, name, room);
+    int error = descriptor < 0 ? errno : fill(descriptor, name, path, before, bytes, length);
+    (void)signals_release(); /* the mask is one that the system gave */
     free(name);
     return error;
 }
@@ -139,7 +151,7 @@ static int write_behind_links(const char *path, const struct stat *before, const
     return error;
 }
 
-static int write_file(const char *path, const uint8_t *bytes, size_t length) {
+int new_file_write(const char *path, const uint8_t *bytes, size_t length) {
     struct stat before;
     if (stat(path, &before) != 0) {
         bool is_new = errno == ENOENT && lstat(path, &before) != 0; /* a link that leads nowhere is left alone */
@@ -150,14 +162,4 @@ static int write_file(const char *path, const uint8_t *bytes, size_t length) {
     }
     int descriptor = open(path, O_WRONLY | O_CLOEXEC);
     return descriptor < 0 ? errno : close_behind(descriptor, write_all(descriptor, bytes, length));
-}
-
-/* A signal that comes meanwhile waits, so that no half of a file is left beside. */
-int new_file_write(const char *path, const uint8_t *bytes, size_t length) {
-    if (!signals_hold()) {
-        return errno;
-    }
-    int error = write_file(path, bytes, length);
-    (void)signals_release(); /* the mask is one that the system gave */
-    return error;
 }
