@@ -31,7 +31,8 @@ static enum line_state read_text(struct line *line) {
         byte = getchar();
     }
     if (byte == EOF && ferror(stdin) != 0) {
-        return bad(strerror(errno));
+        complain("standard input cannot be read: %s", strerror(errno));
+        return LINE_BAD;
     }
     if (byte == EOF) {
         return line->text.length == 0 ? LINE_END : bad("the line has no line end");
