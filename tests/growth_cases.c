@@ -6,23 +6,24 @@ static struct records grown;
 static struct lent lent;
 
 /* Buffers for a call on the small book, of which `grown` is a copy that expected records are added to. */
-static struct lent *on_small(void) {
+static void set_small(void) {
     grown = small;
     lend(&lent, &small);
-    return &lent;
 }
+
+/* A call on the small book. */
+#define ON_SMALL(call) (set_small(), (call))
 
 static int refused(leskofar_appended answer, uint32_t refusal) {
     return was_refused(&lent, answer, refusal);
 }
 
 /* The new book is the next call's book. */
-static struct lent *go_on(leskofar_appended answer) {
+static void go_on(leskofar_appended answer) {
     memcpy(lent.book, lent.new_book, answer.length);
     lent.book_len = answer.length;
     memset(lent.new_book, FILL, sizeof lent.new_book);
     memset(lent.scratch, FILL, sizeof lent.scratch);
-    return &lent;
 }
 
 /* From the book without records: a point of the trace, the term 7, and a record of it. */
@@ -60,23 +61,24 @@ static void worked_tests(void) {
 
 /* A name is appended whatever stands there; the four take the lowest that has the text, the call's own among them. */
 static void name_tests(void) {
-    struct lent *l = on_small();
-    leskofar_appended answer = leskofar_append_name(BOOK(l), TEXT("x"), NEW(l));
+    struct lent *l = &lent;
+    leskofar_appended answer = ON_SMALL(leskofar_append_name(BOOK(l), TEXT("x"), NEW(l)));
     add_name(&grown, "x");
     expect("a name that stands already", has_grown(l, answer, 2, &grown));
-    answer = leskofar_extend(BOOK(go_on(answer)), NODE, FREE, 1, TEXT("x"), NEW(l));
+    go_on(answer);
+    answer = leskofar_extend(BOOK(l), NODE, FREE, 1, TEXT("x"), NEW(l));
     ADD(&grown, CONTEXTS, NODE, FREE, X_NAME + 1);
     expect("the lower of two names", has_grown(l, answer, 2, &grown));
 
-    answer = leskofar_append_name(BOOK(on_small()), TEXT(""), NEW(l));
+    answer = ON_SMALL(leskofar_append_name(BOOK(l), TEXT(""), NEW(l)));
     add_name(&grown, "");
     expect("a name without letters", has_grown(l, answer, 2, &grown));
-    answer = leskofar_extend(BOOK(on_small()), NODE, FREE, 1, NULL, 0, NEW(l));
+    answer = ON_SMALL(leskofar_extend(BOOK(l), NODE, FREE, 1, NULL, 0, NEW(l)));
     add_name(&grown, "");
     ADD(&grown, CONTEXTS, NODE, FREE, 3);
     expect("an empty trace is a trace", has_grown(l, answer, 2, &grown));
 
-    answer = leskofar_record_trace_point(BOOK(on_small()), NODE, TEXT("="), NEW(l));
+    answer = ON_SMALL(leskofar_record_trace_point(BOOK(l), NODE, TEXT("="), NEW(l)));
     add_name(&grown, "probe%1");
     add_name(&grown, "=");
     ADD(&grown, CONSTANTS, 2, BOOL);
@@ -84,11 +86,11 @@ static void name_tests(void) {
     grow_equal(&grown, 3, 1, SMALL_TERMS, 4);
     expect("the trace is the equality's name", has_grown(l, answer, 2, &grown));
 
-    answer = leskofar_record(BOOK(on_small()), NODE, FREE, INT_TYPE, 1, TEXT("probe%1"), NEW(l));
+    answer = ON_SMALL(leskofar_record(BOOK(l), NODE, FREE, INT_TYPE, 1, TEXT("probe%1"), NEW(l)));
     grow_record(&grown);
     expect("the trace is the constant's name", has_grown(l, answer, 2, &grown));
-    answer = leskofar_extend_with_equality(BOOK(go_on(answer)), 2, X, USED, NEW(l));
-    expect("its term is in use", refused(answer, LESKOFAR_NO_FOREST));
+    go_on(answer);
+    expect("what is recorded is in use", refused(leskofar_extend(BOOK(l), 2, FREE, 0, NULL, 0, NEW(l)), LESKOFAR_NO_FOREST));
 }
 
 /* A name that is found counts for nothing, and one that is not is one too many. */
@@ -116,21 +118,23 @@ static void full_name_tests(void) {
 /* The flag is 0 for none, and any other number for a trace. */
 static void flag_tests(void) {
     static const uint32_t flags[] = {1, 7, 256, UINT32_MAX};
+    struct lent *l = &lent;
+    leskofar_appended answer;
     for (size_t i = 0; i < sizeof flags / sizeof flags[0]; i++) {
-        struct lent *l = on_small();
+        answer = ON_SMALL(leskofar_extend(BOOK(l), NODE, FREE, flags[i], TEXT("step"), NEW(l)));
         grow_extend(&grown);
-        expect("a trace is given", has_grown(l, leskofar_extend(BOOK(l), NODE, FREE, flags[i], TEXT("step"), NEW(l)), 2, &grown));
-        l = on_small();
+        expect("a trace is given", has_grown(l, answer, 2, &grown));
+        answer = ON_SMALL(leskofar_record(BOOK(l), NODE, FREE, INT_TYPE, flags[i], TEXT("<"), NEW(l)));
         grow_record(&grown);
-        grown.numbers[CONTEXTS][5] = LESS_NAME + 1;
-        expect("and recorded", has_grown(l, leskofar_record(BOOK(l), NODE, FREE, INT_TYPE, flags[i], TEXT("<"), NEW(l)), 2, &grown));
+        grown.numbers[CONTEXTS][5] = LESS_NAME + 1; /* the last node's trace */
+        expect("and recorded", has_grown(l, answer, 2, &grown));
     }
-    struct lent *l = on_small();
+    answer = ON_SMALL(leskofar_extend(BOOK(l), NODE, FREE, 0, TEXT("\x1F"), NEW(l)));
     ADD(&grown, CONTEXTS, NODE, FREE, 0);
-    expect("none is given", has_grown(l, leskofar_extend(BOOK(l), NODE, FREE, 0, TEXT("\x1F"), NEW(l)), 2, &grown));
-    l = on_small();
+    expect("none is given", has_grown(l, answer, 2, &grown));
+    answer = ON_SMALL(leskofar_record(BOOK(l), NODE, FREE, INT_TYPE, 0, TEXT("\x1F"), NEW(l)));
     grow_record(&grown);
-    expect("none is recorded", has_grown(l, leskofar_record(BOOK(l), NODE, FREE, INT_TYPE, 0, TEXT("\x1F"), NEW(l)), 2, &grown));
+    expect("none is recorded", has_grown(l, answer, 2, &grown));
 }
 
 /* The calls that hang a node below a parent. */
@@ -169,7 +173,7 @@ static void hanging_tests(void) {
     for (int i = 0; i < HANGING_COUNT; i++) {
         static const uint32_t outside[] = {SMALL_NODES + 1, SMALL_NODES + 2, UINT32_MAX};
         for (size_t k = 0; k < sizeof outside / sizeof outside[0]; k++) {
-            on_small();
+            set_small();
             expect("a parent outside", refused(HANGING[i](outside[k], FREE), LESKOFAR_NOT_IN_BOOK));
         }
         lend(&lent, &deep);
@@ -178,11 +182,11 @@ static void hanging_tests(void) {
         expect("below depth 64", refused(HANGING[i](MOST_DEPTH, FREE), LESKOFAR_TOO_DEEP));
     }
     for (int i = 0; i < WITH_TERM; i++) {
-        on_small();
+        set_small();
         expect("a term outside", refused(HANGING[i](NODE, SMALL_TERMS), LESKOFAR_NOT_IN_BOOK));
-        on_small();
+        set_small();
         expect("a term far outside", refused(HANGING[i](NODE, UINT32_MAX), LESKOFAR_NOT_IN_BOOK));
-        on_small();
+        set_small();
         expect("a term in use", refused(HANGING[i](NODE, USED), LESKOFAR_NO_FOREST));
         lend(&lent, &deep);
         expect("a term in use, too deep", refused(HANGING[i](MOST_DEPTH, USED), LESKOFAR_NO_FOREST));
@@ -194,16 +198,16 @@ static void letter_tests(void) {
     static const char *const good[] = {" ", "~", "a b"};
     static const char *const bad[] = {"\x1F", "\x7F", "\x80", "\xFF", "a\n"};
     for (size_t i = 0; i < sizeof good / sizeof good[0]; i++) {
-        expect("a good name", leskofar_append_name(BOOK(on_small()), TEXT(good[i]), NEW(&lent)).number == 2);
-        expect("a good trace", leskofar_extend(BOOK(on_small()), NODE, FREE, 1, TEXT(good[i]), NEW(&lent)).number == 2);
+        expect("a good name", ON_SMALL(leskofar_append_name(BOOK(&lent), TEXT(good[i]), NEW(&lent))).number == 2);
+        expect("a good trace", ON_SMALL(leskofar_extend(BOOK(&lent), NODE, FREE, 1, TEXT(good[i]), NEW(&lent))).number == 2);
     }
     for (size_t i = 0; i < sizeof bad / sizeof bad[0]; i++) {
         const uint32_t four = LESKOFAR_FIELD_OUT_OF_RANGE;
-        expect("a bad name", refused(leskofar_append_name(BOOK(on_small()), TEXT(bad[i]), NEW(&lent)), four));
-        expect("a bad trace", refused(leskofar_extend(BOOK(on_small()), NODE, FREE, 1, TEXT(bad[i]), NEW(&lent)), four));
-        expect("of a term in use", refused(leskofar_extend(BOOK(on_small()), NODE, USED, 1, TEXT(bad[i]), NEW(&lent)), four));
-        expect("recorded", refused(leskofar_record(BOOK(on_small()), NODE, FREE, 1, 1, TEXT(bad[i]), NEW(&lent)), four));
-        expect("as a point", refused(leskofar_record_trace_point(BOOK(on_small()), NODE, TEXT(bad[i]), NEW(&lent)), four));
+        expect("a bad name", refused(ON_SMALL(leskofar_append_name(BOOK(&lent), TEXT(bad[i]), NEW(&lent))), four));
+        expect("a bad trace", refused(ON_SMALL(leskofar_extend(BOOK(&lent), NODE, FREE, 1, TEXT(bad[i]), NEW(&lent))), four));
+        expect("of a term in use", refused(ON_SMALL(leskofar_extend(BOOK(&lent), NODE, USED, 1, TEXT(bad[i]), NEW(&lent))), four));
+        expect("recorded", refused(ON_SMALL(leskofar_record(BOOK(&lent), NODE, FREE, 1, 1, TEXT(bad[i]), NEW(&lent))), four));
+        expect("as a point", refused(ON_SMALL(leskofar_record_trace_point(BOOK(&lent), NODE, TEXT(bad[i]), NEW(&lent))), four));
     }
 }
 
@@ -213,16 +217,16 @@ static void range_tests(void) {
     static const uint32_t beyond[] = {2, 3, UINT32_MAX};
     for (size_t i = 0; i < sizeof beyond / sizeof beyond[0]; i++) {
         uint32_t n = beyond[i];
-        expect("a constant's name", refused(leskofar_append_constant(BOOK(on_small()), n, INT_TYPE, NEW(&lent)), four));
-        expect("a constant's type", refused(leskofar_append_constant(BOOK(on_small()), X_NAME, n, NEW(&lent)), four));
-        expect("an equality's constant", refused(leskofar_extend_with_equality(BOOK(on_small()), NODE, n, FREE, NEW(&lent)), four));
-        expect("a record's type", refused(leskofar_record(BOOK(on_small()), NODE, FREE, n, 0, NULL, 0, NEW(&lent)), four));
-        expect("the same of a term in use", refused(leskofar_record(BOOK(on_small()), NODE, USED, n, 0, NULL, 0, NEW(&lent)), four));
+        expect("a constant's name", refused(ON_SMALL(leskofar_append_constant(BOOK(&lent), n, INT_TYPE, NEW(&lent))), four));
+        expect("a constant's type", refused(ON_SMALL(leskofar_append_constant(BOOK(&lent), X_NAME, n, NEW(&lent))), four));
+        expect("an equality's constant", refused(ON_SMALL(leskofar_extend_with_equality(BOOK(&lent), NODE, n, FREE, NEW(&lent))), four));
+        expect("a record's type", refused(ON_SMALL(leskofar_record(BOOK(&lent), NODE, FREE, n, 0, NULL, 0, NEW(&lent))), four));
+        expect("the same of a term in use", refused(ON_SMALL(leskofar_record(BOOK(&lent), NODE, USED, n, 0, NULL, 0, NEW(&lent))), four));
     }
-    expect("a node's trace", refused(leskofar_append_node(BOOK(on_small()), NODE, FREE, 3, NEW(&lent)), four));
-    expect("the last trace", leskofar_append_node(BOOK(on_small()), NODE, FREE, 2, NEW(&lent)).number == 2);
+    expect("a node's trace", refused(ON_SMALL(leskofar_append_node(BOOK(&lent), NODE, FREE, 3, NEW(&lent))), four));
+    expect("the last trace", ON_SMALL(leskofar_append_node(BOOK(&lent), NODE, FREE, 2, NEW(&lent))).number == 2);
     expect("an equality's next constant is not there yet",
-           refused(leskofar_extend_with_equality(BOOK(on_small()), NODE, X + 1, FREE, NEW(&lent)), four));
+           refused(ON_SMALL(leskofar_extend_with_equality(BOOK(&lent), NODE, X + 1, FREE, NEW(&lent))), four));
 }
 
 int main(void) {
