@@ -206,7 +206,7 @@ leskofar_nodes_tested leskofar_nodes_test(const uint8_t *book, size_t book_len, 
 /* What such a call answers. Where it is refused, all is 0 but the refusal. */
 typedef struct {
     uint32_t refusal;
-    uint32_t number; /* of the new name, constant or term; of the new node where there is one, which is never 0 */
+    uint32_t number; /* of the new name, constant or term; for the last five calls of the new node */
     uint64_t length; /* of the new book */
 } leskofar_appended;
 
