@@ -34,7 +34,7 @@ done
 check 'the installed host runs' "$root$prefix/bin/leskofar" --help
 check 'the man page is sound' sh -c 'said=$(man --warnings -E UTF-8 -l "$1" 2>&1 >/dev/null); echo "$said"; test -z "$said"' sh "$root$prefix/share/man/man1/leskofar.1"
 for word in check print trace listing 'leskofar nodes' prove 'leskofar new' 'append name' 'append constant' 'append term' 'append node' 'leskofar extend' 'leskofar equate' \
-    'leskofar record' 'leskofar point' 'leskofar work' 'ask NODE TERM' '-o NEW' --first --second --show-proof-obligations --lines --indent --tag --solver --timeout --memory --log --quiet --help; do
+    'leskofar record' 'leskofar point' 'work BOOK' 'ask NODE TERM' '-o NEW' --first --second --show-proof-obligations --lines --indent --tag --solver --timeout --memory --log --quiet --help; do
     check "the man page has $word" sh -c 'man -E UTF-8 -l "$1" | grep -qe "$2"' sh "$root$prefix/share/man/man1/leskofar.1" "$word"
 done
 

@@ -206,7 +206,7 @@ run new
 expect_said 'no file for a new book' 2 'leskofar: usage: leskofar new -o BOOK'
 run new "$base" -o "$grown/none.book"
 expect_said 'a new book from another' 2 'leskofar: usage: leskofar new -o BOOK'
-for list in '' , 1, ,1 1,,2 x 1,x 4294967296 1,4294967296 ' 1' '1 ,2' -1; do
+for list in '' ',' '1,' ',1' '1,,2' x '1,x' 4294967296 '1,4294967296' ' 1' '1 ,2' -1; do
     run append term "$base" 4 0 --first "$list" -o "$grown/none.book"
     expect_said "the list '$list'" 2 "leskofar: --first is a row of numbers from 0 to 4294967295 with commas between them, not $list"
 done
@@ -244,16 +244,16 @@ expect_said 'to a device' 0 0
 [ -z "$(find "$grown" -name '*.new-*')" ] && passed=$((passed + 1)) || fail 'files' 'one is left beside'
 
 # A byte changed anywhere: refused with the number and words of `check`, or grown into a good book.
-length=$(wc -c <"$grown/rich.book")
+book_of siblings
+length=$(wc -c <"$work/siblings.book")
 damaged=$grown/damaged.book
 refusals=0
 # So that the changes go all over the book.
 STRIDE=7919
 change=1
 while [ "$change" -le "$GROWTH_CHANGES" ]; do
-    cp "$grown/rich.book" "$damaged"
-    printf "\\$(printf '%03o' $((change * 37 % 256)))" |
-        dd of="$damaged" bs=1 seek=$((change * STRIDE % length)) conv=notrunc 2>/dev/null
+    cp "$work/siblings.book" "$damaged"
+    printf "\\00$((change % 4))" | dd of="$damaged" bs=1 seek=$((change * STRIDE % length)) conv=notrunc 2>/dev/null
     run check "$damaged" --raw-names --raw-sorts
     complaint=$(grep 'refused' "$err")
     run append name "$damaged" abc -o "$grown/regrown.book"
@@ -269,4 +269,5 @@ while [ "$change" -le "$GROWTH_CHANGES" ]; do
     change=$((change + 1))
 done
 echo "$GROWTH_CHANGES books with a byte changed: $refusals refused"
-[ "$refusals" -gt 0 ] && [ "$refusals" -lt "$GROWTH_CHANGES" ] && passed=$((passed + 1)) || fail 'books with a byte changed' 'all alike'
+[ $((5 * refusals)) -ge "$GROWTH_CHANGES" ] && [ $((5 * refusals)) -le $((4 * GROWTH_CHANGES)) ] && passed=$((passed + 1)) ||
+    fail 'books with a byte changed' 'too few or too many are refused'
