@@ -212,6 +212,36 @@ static void damage_tests(const struct growth_call *call) {
     expect("some of them good", good_books > 0);
 }
 
+/* A book that is full but for a name, which has no letters: with it there is no larger one. */
+static void largest_tests(void) {
+    static struct records r;
+    static struct records grown;
+    r = small;
+    memset(r.letters + strlen(r.letters), 'a', MOST_LETTERS - strlen(r.letters));
+    for (int s = 0; s < NUMBERED; s++) {
+        size_t count = s == NAMES ? MOST[s] - 1 : MOST[s];
+        if (s == TYPES || s == FUNCTIONS || s == AXIOMS || s == PATTERNS) {
+            r.counts[s] = count; /* all their fields are 0 */
+        } else if (s != TERMS) {
+            fill(&r, s, count);
+        }
+    }
+    for (size_t axiom = 0; axiom < MOST[AXIOMS]; axiom++) {
+        r.numbers[AXIOMS][axiom * FIELDS[AXIOMS]] = UINT32_MAX; /* no term */
+    }
+    fill(&r, TERMS, MOST[TERMS]);
+    grown = r;
+    add_name(&grown, "");
+    for (size_t room = LESKOFAR_BOOK - 1; room <= LESKOFAR_BOOK + 1; room++) {
+        lend(&lent, &r);
+        lent.new_len = room;
+        leskofar_appended answer = leskofar_append_name(BOOK(&lent), NULL, 0, NEW(&lent));
+        expect("the largest book", room < LESKOFAR_BOOK ? was_refused(&lent, answer, LESKOFAR_BUFFER_TOO_SHORT)
+                                                        : has_grown(&lent, answer, (uint32_t)MOST[NAMES] - 1, &grown) &&
+                                                              answer.length == LESKOFAR_BOOK);
+    }
+}
+
 /* NULL stands for every empty buffer. */
 static void null_tests(void) {
     lend(&lent, &small);
@@ -234,6 +264,7 @@ int main(void) {
         full_tests(&CALLS[i]);
         damage_tests(&CALLS[i]);
     }
+    largest_tests();
     null_tests();
     return close_tests();
 }

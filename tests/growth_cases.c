@@ -229,6 +229,33 @@ static void range_tests(void) {
            refused(ON_SMALL(leskofar_extend_with_equality(BOOK(&lent), NODE, X + 1, FREE, NEW(&lent))), four));
 }
 
+/* A call below a parent with a trace, where there is no room at all: whatever else holds comes first. */
+static uint32_t without_room(const struct records *r, uint32_t parent, uint32_t term, const char *text) {
+    lend(&lent, r);
+    lent.new_len = 0;
+    return leskofar_extend(BOOK(&lent), parent, term, 1, TEXT(text), NEW(&lent)).refusal;
+}
+
+static void order_tests(void) {
+    static struct records full;
+    full = small;
+    while (full.counts[NAMES] < MOST[NAMES]) {
+        ADD(&full, NAMES, 0, 0);
+    }
+    for (uint32_t node = 2; node <= MOST_DEPTH; node++) {
+        ADD(&full, TERMS, 0, 1);
+        ADD(&full, CONTEXTS, node - 1, (uint32_t)full.counts[TERMS] - 1, 0);
+    }
+    const uint32_t outside = (uint32_t)full.counts[TERMS];
+    expect("7 before all", without_room(&full, MOST_DEPTH, outside, "\x1F") == LESKOFAR_NOT_IN_BOOK);
+    expect("3 before 4", without_room(&full, MOST_DEPTH, USED, "\x1F") == LESKOFAR_COUNT_OVER_LIMIT);
+    full.counts[NAMES]--;
+    expect("4 before 5", without_room(&full, MOST_DEPTH, USED, "\x1F") == LESKOFAR_FIELD_OUT_OF_RANGE);
+    expect("5 before 6", without_room(&full, MOST_DEPTH, USED, "step") == LESKOFAR_NO_FOREST);
+    expect("6 before 10", without_room(&full, MOST_DEPTH, FREE, "step") == LESKOFAR_TOO_DEEP);
+    expect("10 at last", without_room(&full, MOST_DEPTH - 1, FREE, "step") == LESKOFAR_BUFFER_TOO_SHORT);
+}
+
 int main(void) {
     small_records(&small);
     worked_tests();
@@ -238,5 +265,6 @@ int main(void) {
     hanging_tests();
     letter_tests();
     range_tests();
+    order_tests();
     return close_tests();
 }

@@ -174,6 +174,20 @@ static void long_list_tests(void) {
                        LESKOFAR_FIELD_OUT_OF_RANGE));
 }
 
+/* What is handed over wrongly is 4, behind 3 and before 5. */
+static void order_tests(void) {
+    static struct records full;
+    const uint8_t own[NUMBER] = {OWN};
+    full = rich;
+    while (full.counts[TERMS] < MOST[TERMS]) {
+        ADD(&full, TERMS, 0, 1);
+    }
+    lend(&lent, &full);
+    leskofar_appended answer = leskofar_append_term(BOOK(&lent), 4, 1, 9, 0, 0, 0, 0, own, sizeof own, own, 1, NEW(&lent));
+    expect("too many, and handed over wrongly", was_refused(&lent, answer, LESKOFAR_COUNT_OVER_LIMIT));
+    expect("handed over wrongly, and its own child", refused(with(HAND(4, 1, 9), 0, OWN), LESKOFAR_FIELD_OUT_OF_RANGE));
+}
+
 static void child_tests(void) {
     static const uint32_t five = LESKOFAR_NO_FOREST;
     expect("its own argument", refused(with(HAND(4, 1), 0, OWN), five));
@@ -208,6 +222,7 @@ int main(void) {
     list_tests();
     handed_tests();
     long_list_tests();
+    order_tests();
     child_tests();
     pattern_tests();
     return close_tests();
