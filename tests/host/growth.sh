@@ -241,6 +241,18 @@ for to in /dev/full "$grown" "$grown/no/such/book" /no/such/book; do
 done
 run append name "$base" abc -o /dev/null
 expect_said 'to a device' 0 0
+# A disk that takes nothing more: what was there stays. The limit is the shell's too, so what is said goes through a pipe.
+cp "$base" "$grown/kept.book"
+for to in "$grown/kept.book" "$grown/none.book"; do
+    # shellcheck disable=SC2086
+    (
+        ulimit -f 0
+        timeout "$HANGS_AFTER" $HOST append name "$base" abc -o "$to" 2>&1
+        echo "status $?"
+    ) | cat >"$out"
+    printf '%s\n' "leskofar: $to: File too large" 'status 2' | cmp -s - "$out" && cmp -s "$base" "$grown/kept.book" && [ ! -e "$grown/none.book" ] &&
+        passed=$((passed + 1)) || fail "to $to beyond the limit" "$(cat "$out")"
+done
 [ -z "$(find "$grown" -name '*.new-*')" ] && passed=$((passed + 1)) || fail 'files' 'one is left beside'
 
 # A byte changed anywhere: refused with the number and words of `check`, or grown into a good book.
