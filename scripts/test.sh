@@ -16,7 +16,7 @@ reference
 library
 
 part 'the host, with z3, cvc5 and solvers that fail'
-host_by_hand() { env PARTS='usage names sorts samples nodes growth work faults attacks limits stack engines' tests/host.sh; }
+host_by_hand() { env PARTS='usage names sorts samples nodes growth lines work faults attacks limits stack engines' tests/host.sh; }
 host_at_random() { env PARTS='verdicts kills mutants splices plans' tests/host.sh; }
 # A host that is slower: fewer inputs, and for signals more time.
 host_sanitized() {
@@ -26,7 +26,7 @@ host_sanitized() {
 host_valgrind() {
     memcheck='valgrind -q --error-exitcode=99 --leak-check=full --errors-for-leak-kinds=definite,indirect,possible'
     env HOST="$memcheck --child-silent-after-fork=yes --suppressions=tests/valgrind.supp target/host/leskofar" \
-        PARTS='samples work faults' WORK_PLANS=2 PATIENCE=4 LARGE=2000000 tests/host.sh
+        PARTS='samples lines work faults' WORK_PLANS=2 PATIENCE=4 LARGE=2000000 tests/host.sh
 }
 if host_built; then
     host_pieces
