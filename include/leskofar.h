@@ -190,8 +190,8 @@ leskofar_nodes_tested leskofar_nodes_test(const uint8_t *book, size_t book_len, 
  * A new record stands behind the last one of its section, so every old record keeps its number, and what it says. Letters and list
  * entries are always new; a new range without entries, and a new name without letters, starts at 0.
  *
- * A session of the old book goes on with the new one, also while a reply or model is owed: hand each call the newest book. Whatever is
- * in the old book has the same outcome on both.
+ * A session of the old book goes on with the new one, also while a reply or model is owed: hand each call the newest book. A call whose
+ * node and goal are in the old book has the same outcome on both.
  *
  * Refusals, the first that holds in this order: 1 to 6 for the book received; 7 where leskofar_append_node or one of the last four is
  * given a parent or a term that is not in it, and for nothing else; 3, 4, 5 and 6 for the book as it would become, each for the whole
