@@ -44,8 +44,8 @@ enum leskofar_refusal {
 
 /*
  * Bytes of stack that are enough for any call without a session but leskofar_nodes_test, beside what the caller and its thread take. To
- * print the deepest terms that a book can hold takes nearly all of it, to list them less (docs/PERFORMANCE.md); every other call needs a
- * few thousand bytes.
+ * print the deepest terms that a book can hold takes nearly all of it, to list them less (docs/PERFORMANCE.md); a call that lets a book
+ * grow holds a buffer of LESKOFAR_BOOK bytes there, in which the new book is tested; every other call needs a few thousand bytes.
  */
 #define LESKOFAR_STACK (200 * 1024)
 
