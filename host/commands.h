@@ -12,11 +12,21 @@ enum status command_trace(int count, char **arguments);
 enum status command_listing(int count, char **arguments);
 enum status command_nodes(int count, char **arguments);
 enum status command_prove(int count, char **arguments);
+enum status command_new(int count, char **arguments);
+enum status command_append(int count, char **arguments);
+enum status command_extend(int count, char **arguments);
+enum status command_equate(int count, char **arguments);
+enum status command_record(int count, char **arguments);
+enum status command_point(int count, char **arguments);
+enum status command_work(int count, char **arguments);
 
 /* Helpers of the commands: each is false after a complaint. */
 
 /* A writer with the book of a file. */
 bool command_open(struct writer *writer, const char *path);
+
+/* Writes a book to a file, whole or not at all. */
+bool command_write(const char *path, const struct bytes *book);
 
 /* Whether a call was accepted; a refusal is told with its number and meaning. */
 bool command_accepted(const char *path, uint32_t refusal);

@@ -9,6 +9,14 @@ const char HELP_PROGRAM[] =
     "  listing BOOK NODE TERM                print a node's premises and a goal\n"
     "  nodes BOOK [NODE ..]                  test whether nodes can be reached\n"
     "  prove BOOK NODE TERM [NODE TERM ..]   ask a solver whether terms follow at nodes\n"
+    "  new -o BOOK                           write a book without records\n"
+    "  append WHAT BOOK .. -o NEW            append a name, constant, term or node\n"
+    "  extend BOOK PARENT TERM -o NEW        append a node, with its trace's name\n"
+    "  equate BOOK PARENT CONSTANT TERM -o NEW\n"
+    "                                        the same: a constant equals a term\n"
+    "  record BOOK PARENT TERM TYPE -o NEW   the same of a new constant\n"
+    "  point BOOK PARENT TRACE -o NEW        append a point of the trace\n"
+    "  work BOOK [-o NEW]                    let a book grow while it is asked\n"
     "\n"
     "leskofar COMMAND --help says more of each.\n"
     "\n"
@@ -111,3 +119,108 @@ const char HELP_PROVE[] =
     "Exit status: 0 all proved; 1 some not proved; 2 refused, wrong usage, or what\n"
     "is said or logged cannot be written; 3 the solver failed. Of several the\n"
     "largest is given.\n";
+
+/* What all commands that append say at their end. */
+#define GROWN_FILES \
+    "\n" \
+    "The grown book goes to NEW, which may be BOOK, whole or not at all; old records\n" \
+    "keep their numbers. A text that begins with - stands behind a --.\n" \
+    "\n" \
+    "Exit status: 0 appended; 2 refused, or wrong usage: then NEW is as it was.\n"
+
+const char HELP_NEW[] =
+    "usage: leskofar new -o BOOK\n"
+    "\n"
+    "Writes a book without records, which has only the root, node 0.\n"
+    "\n"
+    "Exit status: 0 written; 2 not written, or wrong usage.\n";
+
+const char HELP_APPEND[] =
+    "usage: leskofar append name BOOK TEXT -o NEW\n"
+    "       leskofar append constant BOOK NAME TYPE -o NEW\n"
+    "       leskofar append term BOOK KIND [FIELD ..] [--first N,..] [--second N,..]\n"
+    "                        -o NEW\n"
+    "       leskofar append node BOOK PARENT TERM TRACE -o NEW\n"
+    "\n"
+    "Appends a record to a book, and prints its number, of a node the node's. All\n"
+    "but a name's text are numbers. TYPE is 0 for Bool, 1 for Int, and from 2 up the\n"
+    "book's own. TRACE is the number of a name + 1, or 0 for none. A term is of KIND\n"
+    "\n"
+    "  0 VALUE               false or true: 0 or 1\n"
+    "  1 LOW HIGH            an integer, its lower and its upper 32 bits\n"
+    "  2 NAME TYPE           a literal\n"
+    "  3 CONSTANT            a constant\n"
+    "  4 NAME                a built-in operator, applied to the terms of --first\n"
+    "  5 FUNCTION            a function, applied to the terms of --first\n"
+    "  6 TERM TERM TERM      if, then, else\n"
+    "  7 CONSTANT TERM TERM  let the constant be a term in another\n"
+    "  8 IS_FORALL 0 0 0 0 TERM\n"
+    "                        exists or forall, 0 or 1, with the constants of --first\n"
+    "                        and the patterns of --second\n"
+    "\n"
+    "Fields that are not given are 0. A term that is referred to already cannot be\n"
+    "referred to again.\n" GROWN_FILES;
+
+const char HELP_EXTEND[] =
+    "usage: leskofar extend BOOK PARENT TERM [TRACE] -o NEW\n"
+    "\n"
+    "Appends a node below node PARENT with the premise TERM, and prints its number.\n"
+    "TRACE is a text; its name is found in the book, or appended.\n" GROWN_FILES;
+
+const char HELP_EQUATE[] =
+    "usage: leskofar equate BOOK PARENT CONSTANT TERM -o NEW\n"
+    "\n"
+    "Appends a node below node PARENT with the premise that a constant equals a\n"
+    "term, and prints its number. It has no trace. The name = is found in the book,\n"
+    "or appended.\n" GROWN_FILES;
+
+const char HELP_RECORD[] =
+    "usage: leskofar record BOOK PARENT TERM TYPE [TRACE] -o NEW\n"
+    "\n"
+    "Appends a node below node PARENT with the premise that a new constant of type\n"
+    "TYPE equals a term, and prints the node's number; a model then tells what the\n"
+    "term is there. The constant is called probe% and PARENT's depth, and that is\n"
+    "the trace where no text TRACE is given. Names are found in the book, or\n"
+    "appended. Two such constants of one depth have one name, and no solver is asked\n"
+    "with a book that has both, but with --raw-names.\n" GROWN_FILES;
+
+const char HELP_POINT[] =
+    "usage: leskofar point BOOK PARENT TRACE -o NEW\n"
+    "\n"
+    "Appends a point of the trace below node PARENT: a node as leskofar record does,\n"
+    "of a new term true. It prints the node's number.\n" GROWN_FILES;
+
+const char HELP_WORK[] =
+    "usage: leskofar work BOOK [-o NEW] [OPTIONS]\n"
+    "\n"
+    "Reads lines from standard input, lets the book grow as they say, and asks a\n"
+    "solver in between: one solver and one session, which goes on with the grown\n"
+    "book; after a failure the next question gets a new solver. A line is one of\n"
+    "\n"
+    "  append name TEXT\n"
+    "  append constant NAME TYPE\n"
+    "  append term KIND [FIELD ..] [--first N,..] [--second N,..]\n"
+    "  append node PARENT TERM TRACE\n"
+    "  extend PARENT TERM [TRACE]\n"
+    "  equate PARENT CONSTANT TERM\n"
+    "  record PARENT TERM TYPE [TRACE]\n"
+    "  point PARENT TRACE\n"
+    "  ask NODE TERM\n"
+    "\n"
+    "A word that is empty or holds blanks stands in quotes, \"\" in it is a quote; a\n"
+    "text that begins with - stands behind a --. What begins with ; is a comment.\n"
+    "Each line is answered at once: by the number that leskofar append and the others\n"
+    "print, or as leskofar prove answers a question. The names and sorts of the book\n"
+    "are checked before a question where it has grown. A line that is refused says\n"
+    "so, changes nothing, and the next is read. A line that cannot be read is told\n"
+    "with its number and ends the work, and nothing is written to NEW; so does one\n"
+    "without its line end.\n"
+    "\n"
+    "  -o NEW   write the grown book to NEW, which may be BOOK, behind the last line\n"
+    "\n"
+    "--solver, --timeout, --memory, --show-proof-obligations, --log, --raw-names,\n"
+    "--raw-sorts and --verbose are as in leskofar prove.\n"
+    "\n"
+    "Exit status: 0 all done and proved; 1 some not proved; 2 refused, a line that\n"
+    "cannot be read, wrong usage, or something cannot be written; 3 the solver\n"
+    "failed. Of several the largest is given.\n";

@@ -21,7 +21,14 @@ static const struct command COMMANDS[] = {{"check", command_check, HELP_CHECK},
                                           {"trace", command_trace, HELP_TRACE},
                                           {"listing", command_listing, HELP_LISTING},
                                           {"nodes", command_nodes, HELP_NODES},
-                                          {"prove", command_prove, HELP_PROVE}};
+                                          {"prove", command_prove, HELP_PROVE},
+                                          {"new", command_new, HELP_NEW},
+                                          {"append", command_append, HELP_APPEND},
+                                          {"extend", command_extend, HELP_EXTEND},
+                                          {"equate", command_equate, HELP_EQUATE},
+                                          {"record", command_record, HELP_RECORD},
+                                          {"point", command_point, HELP_POINT},
+                                          {"work", command_work, HELP_WORK}};
 enum { COMMAND_COUNT = sizeof COMMANDS / sizeof COMMANDS[0] };
 
 static const char HELP[] = "--help";

@@ -3,6 +3,8 @@
 
 #include "new_file.h"
 
+#include "signals.h"
+
 #include <errno.h>
 #include <fcntl.h>
 #include <stdlib.h>
@@ -89,4 +91,75 @@ FILE *new_file_open(const char *path) {
         return file_of(open(path, O_WRONLY | O_CLOEXEC));
     }
     return replace_behind_links(path, &before);
+}
+
+static bool write_all(int descriptor, const uint8_t *bytes, size_t length) {
+    size_t written = 0;
+    while (written < length) {
+        ssize_t count = write(descriptor, bytes + written, length - written);
+        if (count < 0 && errno != EINTR) {
+            return false;
+        }
+        written += count > 0 ? (size_t)count : 0;
+    }
+    return true;
+}
+
+/* Closes a descriptor behind what was done with it, and gives the number of the first error. */
+static int close_behind(int descriptor, bool is_done) {
+    int error = is_done ? 0 : errno;
+    bool is_closed = close(descriptor) == 0;
+    return error == 0 && !is_closed ? errno : error;
+}
+
+/* Fills a new file of this name, and puts it into its place. The bytes are on the disk before the name is. */
+static int fill(int descriptor, const char *name, const char *path, const struct stat *before, const uint8_t *bytes, size_t length) {
+    bool has_permissions = before == NULL || fchmod(descriptor, before->st_mode & PERMISSIONS) == 0;
+    int error = close_behind(descriptor, has_permissions && write_all(descriptor, bytes, length) && fsync(descriptor) == 0);
+    if (error == 0 && rename(name, path) != 0) {
+        error = errno;
+    }
+    if (error != 0) {
+        (void)unlink(name); /* it is ours, and nobody has it yet */
+    }
+    return error;
+}
+
+/*
+ * `before` is the file whose place is taken, NULL where there is none. A signal that would end the program waits meanwhile, so that no
+ * part of a file is left beside.
+ */
+static int write_beside(const char *path, const struct stat *before, const uint8_t *bytes, size_t length) {
+    size_t room = strlen(path) + MORE_LETTERS;
+    char *name = malloc(room);
+    if (name == NULL || !signals_hold()) {
+        int why = errno;
+        free(name);
+        return why;
+    }
+    int descriptor = open_beside(path, name, room);
+    int error = descriptor < 0 ? errno : fill(descriptor, name, path, before, bytes, length);
+    (void)signals_release(); /* the mask is one that the system gave */
+    free(name);
+    return error;
+}
+
+static int write_behind_links(const char *path, const struct stat *before, const uint8_t *bytes, size_t length) {
+    char *target = access(path, W_OK) == 0 ? realpath(path, NULL) : NULL;
+    int error = target == NULL ? errno : write_beside(target, before, bytes, length);
+    free(target);
+    return error;
+}
+
+int new_file_write(const char *path, const uint8_t *bytes, size_t length) {
+    struct stat before;
+    if (stat(path, &before) != 0) {
+        bool is_new = errno == ENOENT && lstat(path, &before) != 0; /* a link that leads nowhere is left alone */
+        return is_new ? write_beside(path, NULL, bytes, length) : errno;
+    }
+    if (S_ISREG(before.st_mode)) {
+        return write_behind_links(path, &before, bytes, length);
+    }
+    int descriptor = open(path, O_WRONLY | O_CLOEXEC);
+    return descriptor < 0 ? errno : close_behind(descriptor, write_all(descriptor, bytes, length));
 }

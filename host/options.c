@@ -1,28 +1,29 @@
 #include "options.h"
 
 #include "complain.h"
+#include "numbers.h"
 
 #include <inttypes.h>
 #include <string.h>
 
-static bool is_number(const char *text, uint64_t *number) {
+static bool is_number(const char *text, size_t length, uint64_t *number) {
     uint64_t value = 0;
-    for (const char *letter = text; *letter != '\0'; letter++) {
-        if (*letter < '0' || *letter > '9') {
+    for (size_t i = 0; i < length; i++) {
+        if (text[i] < '0' || text[i] > '9') {
             return false;
         }
-        uint64_t digit = (uint64_t)(*letter - '0');
+        uint64_t digit = (uint64_t)(text[i] - '0');
         if (value > (UINT64_MAX - digit) / 10) {
             return false;
         }
         value = value * 10 + digit;
     }
     *number = value;
-    return *text != '\0';
+    return length > 0;
 }
 
 bool options_number(const char *text, const char *what, uint64_t least, uint64_t most, uint64_t *number) {
-    if (is_number(text, number) && *number >= least && *number <= most) {
+    if (is_number(text, strlen(text), number) && *number >= least && *number <= most) {
         return true;
     }
     complain("%s is a number from %" PRIu64 " to %" PRIu64 ", not %s", what, least, most, text);
@@ -40,7 +41,31 @@ static const struct option *option_of(const char *argument, const struct option 
     return NULL;
 }
 
+/* Numbers with commas between them. */
+static bool take_list(const struct option *option, const char *value) {
+    bool has_more = true;
+    option->list->length = 0;
+    for (const char *from = value; has_more;) {
+        size_t length = strcspn(from, ",");
+        uint64_t number = 0;
+        if (!is_number(from, length, &number) || number > UINT32_MAX) {
+            complain("%s is a row of numbers from 0 to %" PRIu32 " with commas between them, not %s", option->name, UINT32_MAX, value);
+            return false;
+        }
+        if (!number_add(option->list, (uint32_t)number)) {
+            complain("the memory does not suffice");
+            return false;
+        }
+        has_more = from[length] == ',';
+        from += length + 1;
+    }
+    return true;
+}
+
 static bool take_value(const struct option *option, const char *value) {
+    if (option->list != NULL) {
+        return take_list(option, value);
+    }
     if (option->text != NULL) {
         *option->text = value;
         return true;

@@ -2,11 +2,9 @@
 #ifndef OPTIONS_H
 #define OPTIONS_H
 
-#include <stdbool.h>
-#include <stddef.h>
-#include <stdint.h>
+#include "bytes.h"
 
-/* An option, with where its value goes; just one of the three places is given, and says what the option takes. */
+/* An option, with where its value goes; just one of the four places is given, and says what the option takes. */
 struct option {
     const char *name;
     bool *flag;
@@ -14,6 +12,7 @@ struct option {
     uint64_t *number;
     uint64_t least; /* of a number */
     uint64_t most;
+    struct bytes *list; /* numbers of 32 bits, as the library takes them */
 };
 
 /* The arguments that are no options, in their order. */

@@ -39,3 +39,7 @@ const char *refusal_meaning(uint32_t refusal) {
     }
     return "a number that no refusal has";
 }
+
+const char *refusal_place(uint32_t refusal) {
+    return refusal >= LESKOFAR_BAD_CONTENTS && refusal <= LESKOFAR_TOO_DEEP ? ", as the book would become" : "";
+}

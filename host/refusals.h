@@ -6,4 +6,7 @@
 
 const char *refusal_meaning(uint32_t refusal);
 
+/* What is said beside the number where a growth is refused, and the book itself is good: whether the new book would be bad. */
+const char *refusal_place(uint32_t refusal);
+
 #endif

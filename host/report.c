@@ -1,6 +1,7 @@
 #include "report.h"
 
 #include "refusals.h"
+#include "sentence.h"
 
 #include <inttypes.h>
 #include <stdio.h>
@@ -143,5 +144,16 @@ void report_result(struct report *report, struct prover *prover, const struct qu
     if (report->is_verbose) {
         tell_errors(&prover->talk);
     }
+    report_status(report, status);
+}
+
+void report_unasked(struct report *report, const struct question *question, const struct bytes *why) {
+    char line[MOST_LINE];
+    int length = snprintf(line, sizeof line, "refused: %.*s", sentence_length(why), sentence_text(why));
+    show_result(&report->show, question->node, question->term, colour_of(STATUS_REFUSED), length < 0 ? "refused" : line);
+    report_status(report, STATUS_REFUSED);
+}
+
+void report_status(struct report *report, enum status status) {
     report->status = status > report->status ? status : report->status;
 }

@@ -24,4 +24,10 @@ void report_question(const struct report *report, struct writer *writer, const s
 void report_result(struct report *report, struct prover *prover, const struct question *question, const struct result *result,
                    enum premises at_node);
 
+/* A question that is not asked, with a sentence why. */
+void report_unasked(struct report *report, const struct question *question, const struct bytes *why);
+
+/* Something else that counts for the status. */
+void report_status(struct report *report, enum status status);
+
 #endif

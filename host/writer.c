@@ -1,5 +1,7 @@
 #include "writer.h"
 
+#include <string.h>
+
 /* The text buffer's size at first, enough for whatever closes a question, and at last. */
 enum { LEAST_TEXT = 1 << 16, MOST_TEXT = 1 << 28 };
 
@@ -9,6 +11,7 @@ enum { LEAST_TEXT = 1 << 16, MOST_TEXT = 1 << 28 };
 #define IMAGE(w) (w)->image, sizeof(w)->image
 #define TEXT(w) (w)->text.at, (w)->text.room
 #define REASON(w) (w)->reason.at, (w)->reason.room
+#define GROWN(w) (w)->grown.at, (w)->grown.room
 
 bool writer_begin(struct writer *writer) {
     *writer = (struct writer){0};
@@ -19,6 +22,7 @@ void writer_free(struct writer *writer) {
     bytes_free(&writer->book);
     bytes_free(&writer->text);
     bytes_free(&writer->reason);
+    bytes_free(&writer->grown);
 }
 
 /*
@@ -75,6 +79,56 @@ uint32_t writer_nodes_test(struct writer *writer, const struct bytes *nodes) {
     writer->result = answer.result;
     writer->position = answer.position;
     return answer.refusal;
+}
+
+/* What was grown becomes the book, and the old book's bytes take the next one. */
+static uint32_t appended(struct writer *writer, leskofar_appended answer) {
+    if (answer.refusal == LESKOFAR_ACCEPTED) {
+        struct bytes old = writer->book;
+        writer->book = writer->grown;
+        writer->book.length = (size_t)answer.length;
+        writer->grown = old;
+        writer->number = answer.number;
+    }
+    return answer.refusal;
+}
+
+static leskofar_appended append_term(struct writer *w, const struct growth *g) {
+    const uint32_t *n = g->numbers;
+    return leskofar_append_term(BOOK(w), SCRATCH(w), n[0], n[1], n[2], n[3], n[4], n[5], n[6], g->first.at, g->first.length, g->second.at,
+                                g->second.length, GROWN(w));
+}
+
+static leskofar_appended grow(struct writer *w, const struct growth *g) {
+    const uint32_t *n = g->numbers;
+    const uint8_t *text = (const uint8_t *)g->text;
+    size_t length = g->text == NULL ? 0 : strlen(g->text);
+    switch (g->kind) {
+    case GROWTH_NAME:
+        return leskofar_append_name(BOOK(w), SCRATCH(w), text, length, GROWN(w));
+    case GROWTH_CONSTANT:
+        return leskofar_append_constant(BOOK(w), SCRATCH(w), n[0], n[1], GROWN(w));
+    case GROWTH_TERM:
+        return append_term(w, g);
+    case GROWTH_NODE:
+        return leskofar_append_node(BOOK(w), SCRATCH(w), n[0], n[1], n[2], GROWN(w));
+    case GROWTH_EXTEND:
+        return leskofar_extend(BOOK(w), SCRATCH(w), n[0], n[1], text != NULL, text, length, GROWN(w));
+    case GROWTH_EQUATE:
+        return leskofar_extend_with_equality(BOOK(w), SCRATCH(w), n[0], n[1], n[2], GROWN(w));
+    case GROWTH_RECORD:
+        return leskofar_record(BOOK(w), SCRATCH(w), n[0], n[1], n[2], text != NULL, text, length, GROWN(w));
+    case GROWTH_POINT:
+        break;
+    }
+    return leskofar_record_trace_point(BOOK(w), SCRATCH(w), n[0], text, length, GROWN(w));
+}
+
+uint32_t writer_grow(struct writer *writer, const struct growth *growth) {
+    if (!bytes_reserve(&writer->grown, LESKOFAR_BOOK)) {
+        return LESKOFAR_BUFFER_TOO_SHORT;
+    }
+    return appended(writer, grow(writer, growth));
 }
 
 uint32_t writer_fresh(struct writer *writer) {

@@ -1,11 +1,12 @@
 /*
- * The script writer: the library's calls on one book and one session, with buffers that grow as far as a text needs them. Each function
- * answers 0 or the refusal's number.
+ * The script writer: the library's calls on one book, which may grow, and one session, with buffers that grow as far as a text needs
+ * them. Each function answers 0 or the refusal's number.
  */
 #ifndef WRITER_H
 #define WRITER_H
 
 #include "bytes.h"
+#include "growth.h"
 
 #include <leskofar.h>
 
@@ -15,8 +16,10 @@ struct writer {
     uint8_t image[LESKOFAR_IMAGE];
     uint32_t result;     /* of the last accepted reply or model, as enum leskofar_result has it; of nodes as enum leskofar_nodes_result */
     uint64_t position;   /* in the last list of nodes that was tested */
+    uint32_t number;     /* of the record or node that the last growth appended */
     struct bytes text;   /* of the last accepted call */
     struct bytes reason; /* of the last one that had any */
+    struct bytes grown;  /* where the next growth is written */
 };
 
 /* How a term is printed. */
@@ -37,6 +40,9 @@ uint32_t writer_listing(struct writer *writer, uint32_t node, uint32_t goal);
 
 /* `nodes` is a list of numbers; what comes of it is the writer's result and position. */
 uint32_t writer_nodes_test(struct writer *writer, const struct bytes *nodes);
+
+/* Lets the book grow; the session goes on with it. What is refused leaves the book as it is. */
+uint32_t writer_grow(struct writer *writer, const struct growth *growth);
 
 uint32_t writer_fresh(struct writer *writer);
 uint32_t writer_ask(struct writer *writer, uint32_t node, uint32_t goal);

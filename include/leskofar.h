@@ -2,7 +2,7 @@
  * Leskofar: the proved script writer between a tree of premises and an SMT solver.
  *
  * Every call takes every input: it checks the book, the session and the numbers for itself, always returns, and refuses what it cannot
- * take with a number. A refused call changes neither the session nor the text and reason buffers.
+ * take with a number. A refused call changes neither the session nor the buffers for a text, a reason or a new book.
  *
  * Buffers are a pointer and a length. The buffers of one call must not overlap: that is the one thing that a call cannot check, and no
  * proof holds where they do. A pointer may be NULL where its length is 0.
@@ -31,7 +31,7 @@ enum leskofar_refusal {
     LESKOFAR_NOT_IN_BOOK = 7,        /* a node or term of the call is not in the book */
     LESKOFAR_REPLY_IS_UNSAT = 8,     /* a model is given for the reply unsat */
     LESKOFAR_MISSING_AXIOM = 9,      /* a function to be declared has an axiom without a term */
-    LESKOFAR_BUFFER_TOO_SHORT = 10,  /* the text or the reason is longer than its buffer */
+    LESKOFAR_BUFFER_TOO_SHORT = 10,  /* the text, the reason or the new book is longer than its buffer */
     LESKOFAR_NO_OPERATOR = 11,       /* the operator's code is not from 1 to 14 */
     LESKOFAR_NO_SESSION = 20,        /* the session is not one that this book's calls leave */
     LESKOFAR_QUESTION_OPEN = 21,     /* move or ask while a reply or model is owed */
@@ -44,8 +44,8 @@ enum leskofar_refusal {
 
 /*
  * Bytes of stack that are enough for any call without a session but leskofar_nodes_test, beside what the caller and its thread take. To
- * print the deepest terms that a book can hold takes nearly all of it, to list them less (docs/PERFORMANCE.md); every other call needs a
- * few thousand bytes.
+ * print the deepest terms that a book can hold takes nearly all of it, to list them less (docs/PERFORMANCE.md); a call that lets a book
+ * grow holds a buffer of LESKOFAR_BOOK bytes there, in which the new book is tested; every other call needs a few thousand bytes.
  */
 #define LESKOFAR_STACK (200 * 1024)
 
@@ -181,6 +181,85 @@ typedef struct {
  */
 leskofar_nodes_tested leskofar_nodes_test(const uint8_t *book, size_t book_len, uint8_t *scratch, size_t scratch_len,
                                           const uint8_t *nodes, size_t nodes_len);
+
+/*
+ * The writer. Each of the eight calls below reads a book, appends records, and writes the grown book from byte 0 of the buffer
+ * `new_book`. The book received is only read; the two must not overlap, so a host that lets a book grow has two buffers and takes them
+ * in turn. Bytes behind the new book keep what they hold; a refused call changes none at all.
+ *
+ * A new record stands behind the last one of its section, so every old record keeps its number, and what it says. Letters and list
+ * entries are always new; a new range without entries, and a new name without letters, starts at 0.
+ *
+ * A session of the old book goes on with the new one, also while a reply or model is owed: hand each call the newest book. A call whose
+ * node and goal are in the old book has the same outcome on both.
+ *
+ * Refusals, the first that holds in this order: 1 to 6 for the book received; 7 where leskofar_append_node or one of the last four is
+ * given a parent or a term that is not in it, and for nothing else; 3, 4, 5 and 6 for the book as it would become, each for the whole
+ * book before the next; 10 where that is longer than its buffer. So a name, type, constant, function, pattern, trace number or child
+ * that is not there is 4, a term that is its own child 5, and a term that is referred to already 5. Afterwards the scratch is all zero,
+ * except under 1.
+ */
+
+/* Bytes of a buffer that is enough for every book. */
+#define LESKOFAR_BOOK 63312
+
+/* What such a call answers. Where it is refused, all is 0 but the refusal. */
+typedef struct {
+    uint32_t refusal;
+    uint32_t number; /* of the new name, constant or term; for the last five calls of the new node */
+    uint64_t length; /* of the new book */
+} leskofar_appended;
+
+/* Appends a name with this text, also where another has the same. */
+leskofar_appended leskofar_append_name(const uint8_t *book, size_t book_len, uint8_t *scratch, size_t scratch_len, const uint8_t *text,
+                                       size_t text_len, uint8_t *new_book, size_t new_book_len);
+
+/* Appends a constant: its name's number and its type, 0 for Bool, 1 for Int, and from 2 up the user type less 2. */
+leskofar_appended leskofar_append_constant(const uint8_t *book, size_t book_len, uint8_t *scratch, size_t scratch_len, uint32_t name,
+                                           uint32_t type, uint8_t *new_book, size_t new_book_len);
+
+/*
+ * Appends a term. Kind and fields are the record's, unused fields 0, but that start and count of a range are given as 0: they are filled
+ * in by what the lists hold. A list has numbers of four bytes, little-endian. Kinds 4 and 5, the applications, take their arguments as
+ * `first`; kind 8, the quantifiers, its constants as `first` and its patterns as `second`; every other list is empty. What is given
+ * otherwise, or cut inside a number, is refused 4.
+ */
+leskofar_appended leskofar_append_term(const uint8_t *book, size_t book_len, uint8_t *scratch, size_t scratch_len, uint32_t kind,
+                                       uint32_t field_1, uint32_t field_2, uint32_t field_3, uint32_t field_4, uint32_t field_5,
+                                       uint32_t field_6, const uint8_t *first, size_t first_len, const uint8_t *second,
+                                       size_t second_len, uint8_t *new_book, size_t new_book_len);
+
+/* Appends a node: its parent, 0 for the root, its premise, and as its trace the number of a name + 1, or 0 for none. */
+leskofar_appended leskofar_append_node(const uint8_t *book, size_t book_len, uint8_t *scratch, size_t scratch_len, uint32_t parent,
+                                       uint32_t term, uint32_t trace, uint8_t *new_book, size_t new_book_len);
+
+/*
+ * The last four append a node with what it needs. Of a text that they need they take the name with the lowest number, and append one
+ * where there is none: the name of the new constant, then `=`, then the trace. Constants, terms and list entries are always new. The
+ * flag `has_trace` is 0 where no trace is given, and `trace` is then not looked at; an empty text is a trace.
+ */
+
+/* Appends a node with a premise below a parent. */
+leskofar_appended leskofar_extend(const uint8_t *book, size_t book_len, uint8_t *scratch, size_t scratch_len, uint32_t parent,
+                                  uint32_t term, uint32_t has_trace, const uint8_t *trace, size_t trace_len, uint8_t *new_book,
+                                  size_t new_book_len);
+
+/* The same with the premise that a constant equals a term: (= constant term). It has no trace. */
+leskofar_appended leskofar_extend_with_equality(const uint8_t *book, size_t book_len, uint8_t *scratch, size_t scratch_len,
+                                                uint32_t parent, uint32_t constant, uint32_t term, uint8_t *new_book,
+                                                size_t new_book_len);
+
+/*
+ * The same with a new constant of a type, so that a model tells what the term is there. Its name is probe% and the parent's depth, such
+ * as probe%0 below the root; that is the trace too where none is given.
+ */
+leskofar_appended leskofar_record(const uint8_t *book, size_t book_len, uint8_t *scratch, size_t scratch_len, uint32_t parent,
+                                  uint32_t term, uint32_t type, uint32_t has_trace, const uint8_t *trace, size_t trace_len,
+                                  uint8_t *new_book, size_t new_book_len);
+
+/* The same of a new term `true`, whose type is Bool: a point of the trace. */
+leskofar_appended leskofar_record_trace_point(const uint8_t *book, size_t book_len, uint8_t *scratch, size_t scratch_len, uint32_t parent,
+                                              const uint8_t *trace, size_t trace_len, uint8_t *new_book, size_t new_book_len);
 
 #ifdef __cplusplus
 }

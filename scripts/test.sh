@@ -16,17 +16,17 @@ reference
 library
 
 part 'the host, with z3, cvc5 and solvers that fail'
-host_by_hand() { env PARTS='usage names sorts samples nodes faults attacks limits stack engines' tests/host.sh; }
+host_by_hand() { env PARTS='usage names sorts samples nodes growth lines work faults attacks limits stack engines' tests/host.sh; }
 host_at_random() { env PARTS='verdicts kills mutants splices plans' tests/host.sh; }
 # A host that is slower: fewer inputs, and for signals more time.
 host_sanitized() {
-    env HOST=target/host/leskofar-sanitized PLANS=20 OTHER_PLANS=5 VERDICTS=30 NODE_PLANS=5 NODE_CHANGES=30 MUTANTS=100 SPLICES=50 MOMENTS=25 LONGEST=200 STEP=10 tests/host.sh
+    env HOST=target/host/leskofar-sanitized PLANS=20 OTHER_PLANS=5 VERDICTS=30 NODE_PLANS=5 NODE_CHANGES=30 GROWTH_CHANGES=20 WORK_PLANS=5 MUTANTS=100 SPLICES=50 MOMENTS=25 LONGEST=200 STEP=10 tests/host.sh
 }
-# Under valgrind all is slower still: the samples and the solvers that fail, fewer bytes, and more patience.
+# Under valgrind all is slower still: the samples, books that grow, and the solvers that fail, fewer bytes, and more patience.
 host_valgrind() {
     memcheck='valgrind -q --error-exitcode=99 --leak-check=full --errors-for-leak-kinds=definite,indirect,possible'
     env HOST="$memcheck --child-silent-after-fork=yes --suppressions=tests/valgrind.supp target/host/leskofar" \
-        PARTS='samples faults' PATIENCE=4 LARGE=2000000 tests/host.sh
+        PARTS='samples lines work faults' WORK_PLANS=2 PATIENCE=4 LARGE=2000000 tests/host.sh
 }
 if host_built; then
     host_pieces

@@ -10,6 +10,8 @@
 #   PATIENCE  how many seconds a silent solver gets
 #   NODE_PLANS  how many plans with axioms that have no term, NODE_LISTS with how many lists of nodes, and NODE_CHANGES how many books
 #             with a byte changed
+#   GROWTH_CHANGES  how many books with a byte changed are to grow
+#   WORK_PLANS  how many made plans grow while they are asked
 #   MUTANTS   how many plans are changed at random, by MUTANTS_SEED
 #   SPLICES   how many runs have a real solver's answers spoilt
 #   STEP      how many bytes lie between two at which a solver dies
@@ -29,6 +31,8 @@ VERDICTS_SEED=${VERDICTS_SEED:-20260111}
 NODE_PLANS=${NODE_PLANS:-25}
 NODE_LISTS=${NODE_LISTS:-20}
 NODE_CHANGES=${NODE_CHANGES:-200}
+GROWTH_CHANGES=${GROWTH_CHANGES:-100}
+WORK_PLANS=${WORK_PLANS:-40}
 MUTANTS=${MUTANTS:-2000}
 MUTANTS_SEED=${MUTANTS_SEED:-24}
 # A changed quantifier may keep a solver busy for ever.
@@ -62,8 +66,17 @@ run() { # arguments...
     : >"$SOLVER_PIDS"
     # The host's words are meant to fall apart.
     # shellcheck disable=SC2086
-    timeout "$HANGS_AFTER" $HOST "$@" >"$out" 2>"$err" </dev/null
+    timeout "$HANGS_AFTER" $HOST "$@" >"$out" 2>"$err" <"$input"
     status=$?
+}
+input=/dev/null
+
+# The same with a file on standard input.
+run_on() { # file arguments...
+    input=$1
+    shift
+    run "$@"
+    input=/dev/null
 }
 
 # Whether a process is there; one that has ended and that nobody has waited for yet is not.
@@ -171,7 +184,7 @@ hangs() { # solver [text...]
     seconds=$ENOUGH
 }
 
-for group in ${PARTS:-usage names sorts verdicts samples nodes faults attacks limits kills stack engines mutants splices plans}; do
+for group in ${PARTS:-usage names sorts verdicts samples nodes growth lines work faults attacks limits kills stack engines mutants splices plans}; do
     . "tests/host/$group.sh"
 done
 

@@ -1,5 +1,5 @@
 #!/bin/sh
-# What `make install` puts where, and the README's plan and program, built through pkg-config and run.
+# What `make install` puts where, and the README's plan, lines and program, the latter built through pkg-config and run.
 #
 #   LIB     the library, if another than make's own
 #   README  the page with the program
@@ -33,7 +33,8 @@ for file in bin/leskofar include/leskofar.h lib/libleskofar.a lib/pkgconfig/lesk
 done
 check 'the installed host runs' "$root$prefix/bin/leskofar" --help
 check 'the man page is sound' sh -c 'said=$(man --warnings -E UTF-8 -l "$1" 2>&1 >/dev/null); echo "$said"; test -z "$said"' sh "$root$prefix/share/man/man1/leskofar.1"
-for word in check print trace listing 'leskofar nodes' prove --show-proof-obligations --lines --indent --tag --solver --timeout --memory --log --quiet --help; do
+for word in check print trace listing 'leskofar nodes' prove 'leskofar new' 'append name' 'append constant' 'append term' 'append node' 'leskofar extend' 'leskofar equate' \
+    'leskofar record' 'leskofar point' 'work BOOK' 'ask NODE TERM' '-o NEW' --first --second --show-proof-obligations --lines --indent --tag --solver --timeout --memory --log --quiet --help; do
     check "the man page has $word" sh -c 'man -E UTF-8 -l "$1" | grep -qe "$2"' sh "$root$prefix/share/man/man1/leskofar.1" "$word"
 done
 
@@ -48,6 +49,12 @@ check 'a book for it' reference/target/release/plan book samples/siblings.plan -
 sed -n '/^```plan$/,/^```$/p' "$README" | sed '/^```/d' >"$work/readme.plan"
 check "the README's plan is read" reference/target/release/plan book "$work/readme.plan" -o "$work/readme.book"
 check "the README's plan is the sample" cmp "$work/readme.book" "$work/siblings.book"
+# The README's lines are answered as it says.
+sed -n '/^```lines$/,/^```$/p' "$README" | sed '/^```/d' >"$work/readme.lines"
+sed -n '/^\$ leskofar work /,/^```$/p' "$README" | sed '1d; /^```/d' >"$work/readme.told"
+check 'a book to begin with' "$root$prefix/bin/leskofar" new -o "$work/first.book"
+check "the README's lines are answered as it says" sh -c 'test -s "$3" && "$1" work "$2/first.book" -o "$2/first.book" <"$2/readme.lines" | cmp - "$3"' \
+    sh "$root$prefix/bin/leskofar" "$work" "$work/readme.told"
 check 'it writes a script that z3 answers' sh -c '"$1" <"$2" >"$3" && test "$(z3 -smt2 -in <"$3")" = unsat' sh "$work/program" "$work/siblings.book" "$work/script"
 
 echo "$passed passed, $failed failed"

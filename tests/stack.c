@@ -18,26 +18,30 @@ static struct written written;
 static uint8_t scratch[LESKOFAR_SCRATCH];
 static uint8_t image[LESKOFAR_IMAGE];
 static uint8_t text[TEXT_SIZE];
+static uint8_t new_book[LESKOFAR_BOOK];
+
+#define BOOK book, written.len, scratch, sizeof scratch
+#define NEW new_book, sizeof new_book
 
 /* Each call gives its refusal. */
 static uint32_t print_line(uint32_t term) {
-    return leskofar_print(book, written.len, scratch, sizeof scratch, term, 0, 0, 0, text, sizeof text).refusal;
+    return leskofar_print(BOOK, term, 0, 0, 0, text, sizeof text).refusal;
 }
 
 static uint32_t print_lines(uint32_t term) {
-    return leskofar_print(book, written.len, scratch, sizeof scratch, term, 0, 1, 0, text, sizeof text).refusal;
+    return leskofar_print(BOOK, term, 0, 1, 0, text, sizeof text).refusal;
 }
 
 static uint32_t trace_node(uint32_t node) {
-    return leskofar_trace(book, written.len, scratch, sizeof scratch, node, text, sizeof text).refusal;
+    return leskofar_trace(BOOK, node, text, sizeof text).refusal;
 }
 
 static uint32_t list_at_root(uint32_t goal) {
-    return leskofar_listing(book, written.len, scratch, sizeof scratch, 0, goal, text, sizeof text).refusal;
+    return leskofar_listing(BOOK, 0, goal, text, sizeof text).refusal;
 }
 
 static uint32_t list_premises(uint32_t node) {
-    return leskofar_listing(book, written.len, scratch, sizeof scratch, node, 0, text, sizeof text).refusal;
+    return leskofar_listing(BOOK, node, 0, text, sizeof text).refusal;
 }
 
 static uint32_t name_operator(uint32_t code) {
@@ -46,12 +50,12 @@ static uint32_t name_operator(uint32_t code) {
 
 static uint32_t test_book(uint32_t unused) {
     (void)unused;
-    return leskofar_book_test(book, written.len, scratch, sizeof scratch);
+    return leskofar_book_test(BOOK);
 }
 
 static uint32_t move_down(uint32_t node) {
     (void)leskofar_fresh(image, sizeof image);
-    return leskofar_move(book, written.len, scratch, sizeof scratch, image, sizeof image, node, text, sizeof text).refusal;
+    return leskofar_move(BOOK, image, sizeof image, node, text, sizeof text).refusal;
 }
 
 /* Down to the node, up, and down again: each walk begins at the levels that the one before it left. */
@@ -59,13 +63,13 @@ static uint32_t test_nodes(uint32_t node) {
     uint8_t nodes[3 * NUMBER] = {0};
     put_number(nodes, node);
     put_number(nodes + 2 * NUMBER, node);
-    leskofar_nodes_tested answer = leskofar_nodes_test(book, written.len, scratch, sizeof scratch, nodes, sizeof nodes);
+    leskofar_nodes_tested answer = leskofar_nodes_test(BOOK, nodes, sizeof nodes);
     return answer.result == LESKOFAR_NODES_PASS ? answer.refusal : LESKOFAR_MISSING_AXIOM;
 }
 
 static uint32_t ask_at_root(uint32_t goal) {
     (void)leskofar_fresh(image, sizeof image);
-    return leskofar_ask(book, written.len, scratch, sizeof scratch, image, sizeof image, 0, goal, text, sizeof text).refusal;
+    return leskofar_ask(BOOK, image, sizeof image, 0, goal, text, sizeof text).refusal;
 }
 
 /* A question at the node where the session stands, to its end: each call tests the image by a walk to that node. */
@@ -73,16 +77,54 @@ static uint32_t question(uint32_t node) {
     static const uint8_t reply[] = {'s', 'a', 't'};
     uint8_t reason[sizeof reply];
     leskofar_answer answer =
-        leskofar_ask(book, written.len, scratch, sizeof scratch, image, sizeof image, node, 0, text, sizeof text);
+        leskofar_ask(BOOK, image, sizeof image, node, 0, text, sizeof text);
     if (answer.refusal == LESKOFAR_ACCEPTED) {
-        answer = leskofar_reply(book, written.len, scratch, sizeof scratch, image, sizeof image, 1, reply, sizeof reply, text, sizeof text,
+        answer = leskofar_reply(BOOK, image, sizeof image, 1, reply, sizeof reply, text, sizeof text,
                                 NULL, 0);
     }
     if (answer.refusal == LESKOFAR_ACCEPTED) {
-        answer = leskofar_model(book, written.len, scratch, sizeof scratch, image, sizeof image, reply, sizeof reply, 0, NULL, 0, text,
+        answer = leskofar_model(BOOK, image, sizeof image, reply, sizeof reply, 0, NULL, 0, text,
                                 sizeof text, reason, sizeof reason);
     }
     return answer.refusal;
+}
+
+/* The writer's calls: with room for every book, and below a parent whose depth is in a new name. */
+static const uint8_t trace[] = {'s', 't', 'e', 'p'};
+
+static uint32_t append_name(uint32_t unused) {
+    (void)unused;
+    return leskofar_append_name(BOOK, trace, sizeof trace, NEW).refusal;
+}
+
+static uint32_t append_constant(uint32_t name) {
+    return leskofar_append_constant(BOOK, name, INT, NEW).refusal;
+}
+
+static uint32_t append_term(uint32_t argument) {
+    uint8_t arguments[NUMBER];
+    put_number(arguments, argument);
+    return leskofar_append_term(BOOK, BUILT_IN, 0, 0, 0, 0, 0, 0, arguments, sizeof arguments, NULL, 0, NEW).refusal;
+}
+
+static uint32_t append_node(uint32_t parent) {
+    return leskofar_append_node(BOOK, parent, written.term, 0, NEW).refusal;
+}
+
+static uint32_t extend(uint32_t parent) {
+    return leskofar_extend(BOOK, parent, written.term, 1, trace, sizeof trace, NEW).refusal;
+}
+
+static uint32_t extend_with_equality(uint32_t parent) {
+    return leskofar_extend_with_equality(BOOK, parent, 0, written.term, NEW).refusal;
+}
+
+static uint32_t record(uint32_t parent) {
+    return leskofar_record(BOOK, parent, written.term, INT, 1, trace, sizeof trace, NEW).refusal;
+}
+
+static uint32_t record_trace_point(uint32_t parent) {
+    return leskofar_record_trace_point(BOOK, parent, trace, sizeof trace, NEW).refusal;
 }
 
 struct job {
@@ -166,11 +208,35 @@ static void measure_texts(struct given g) {
     measure("listing of a premise", g, LESKOFAR_STACK, list_premises, written.node);
 }
 
+/* Of the book just written, as far as it has room for it: a name and a constant. */
+static void measure_growth(struct given g) {
+    measure("append name", g, LESKOFAR_STACK, append_name, 0);
+    measure("append constant", g, LESKOFAR_STACK, append_constant, 0);
+}
+
+/* The same of the calls that need a term in no use, which is appended first, below the deepest node that may have one below it. */
+static void measure_all_growth(struct given g) {
+    uint32_t parent = MOST_DEPTH - 1;
+    leskofar_appended free_term = leskofar_append_term(BOOK, ID, 0, 0, 0, 0, 0, 0, NULL, 0, NULL, 0, NEW);
+    stop_if(free_term.refusal != LESKOFAR_ACCEPTED, "append a term");
+    memcpy(book, new_book, free_term.length);
+    written.len = free_term.length;
+    written.term = free_term.number;
+    measure_growth(g);
+    measure("append term", g, LESKOFAR_STACK, append_term, written.term);
+    measure("append node", g, LESKOFAR_STACK, append_node, parent);
+    measure("extend", g, LESKOFAR_STACK, extend, parent);
+    measure("extend with equality", g, LESKOFAR_STACK, extend_with_equality, parent);
+    measure("record", g, LESKOFAR_STACK, record, parent);
+    measure("record trace point", g, LESKOFAR_STACK, record_trace_point, parent);
+}
+
 static void measure_shape(const struct shape *s) {
     const struct given in_node = {s->name, "in a node"};
     written = write_nest(book, s, leaf);
     measure_texts(in_node);
     measure_session(in_node);
+    measure_growth(in_node);
     written = write_nest(book, s, least_number);
     measure_texts((struct given){s->name, "around a negative number"});
     written = write_axioms(book, s, 1);
@@ -191,6 +257,7 @@ int main(void) {
     measure("trace", chain, LESKOFAR_STACK, trace_node, written.node);
     measure("listing", chain, LESKOFAR_STACK, list_premises, written.node);
     measure_session(chain);
+    measure_all_growth(chain);
     measure("operator", (struct given){"any", "code"}, LESKOFAR_STACK, name_operator, 1);
     return close_tests();
 }

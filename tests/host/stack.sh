@@ -33,6 +33,7 @@ while read -r deepest node term; do
         deep "$kib" print "$deepest" "$term" --lines
         deep "$kib" listing "$deepest" "$node" "$term"
         deep "$kib" nodes "$deepest"
+        deep "$kib" append name "$deepest" x -o "$work/deepest/grown"
         # shellcheck disable=SC2086
         deep "$kib" prove "$deepest" "$node" "$term" 0 "$term" --solver tests/solvers/proves_all.sh $raw
     done

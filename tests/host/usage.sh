@@ -5,8 +5,8 @@ book=$work/siblings.book
 
 run --help
 expect 'help' 0 'usage: leskofar COMMAND'
-commands='check print trace listing nodes prove'
-[ "$(sed -n 's/^  \([a-z]*\) BOOK .*/\1/p' "$out" | tr '\n' ' ')" = "$commands " ] && passed=$((passed + 1)) ||
+commands='check print trace listing nodes prove new append extend equate record point work'
+[ "$(sed -n 's/^  \([a-z][a-z]*\) .*/\1/p' "$out" | tr '\n' ' ')" = "$commands " ] && passed=$((passed + 1)) ||
     fail 'help' 'other commands, or another order'
 for command in $commands; do
     run "$command" --help
@@ -28,8 +28,12 @@ expect 'a good book' 0 'a good book'
 head -c 79 "$book" >"$work/short.book"
 for command in $commands; do
     case $command in
-        check) run check "$work/short.book" ;;
+        new) continue ;;
+        check | work) run "$command" "$work/short.book" ;;
         listing | prove) run "$command" "$work/short.book" 1 1 ;;
+        append) run append name "$work/short.book" x -o "$work/grown.book" ;;
+        equate | record) run "$command" "$work/short.book" 0 0 0 -o "$work/grown.book" ;;
+        extend | point) run "$command" "$work/short.book" 0 0 -o "$work/grown.book" ;;
         *) run "$command" "$work/short.book" 1 ;;
     esac
     expect "$command refuses a book cut short" 2 'refused 2: the book is under 80 bytes, or its table of contents is not as laid out'
@@ -204,9 +208,10 @@ run prove "$book" 3 34 --log /no/such/file
 expect 'a log that cannot be written' 2 '/no/such/file'
 run prove "$book" 3 34 --log /dev/full
 expect 'a log on a full disk' 2 '/dev/full cannot be written'
-for words in "print $book 34" "listing $book 4 34" "nodes $book"; do
+echo 'append name x' >"$work/name.lines"
+for words in "print $book 34" "listing $book 4 34" "nodes $book" "append name $book x -o $work/grown.book" "work $book"; do
     # shellcheck disable=SC2086
-    timeout "$HANGS_AFTER" $HOST $words >/dev/full 2>"$err"
+    timeout "$HANGS_AFTER" $HOST $words >/dev/full 2>"$err" <"$work/name.lines"
     status=$?
     : >"$out"
     expect "a full standard output for $words" 2 'standard output cannot be written'
