@@ -152,15 +152,17 @@ fn full_lists_group(tally: &mut Tally) {
         let [nearly, fuller] = [most - 4, most]
             .map(|entries| filled_up(with_a_pattern(), Section::Lists, entries).book());
         expect(&nearly, &listed, Ok(2), &mut ends)?;
-        // An empty range starts at 0, and a number that is cut counts as one.
+        // An empty range starts at 0, and a number that is cut is no entry.
         let grown = expect(&fuller, &term(forall, [&[], &[]]), Ok(2), &mut ends)?;
         same(grown.terms[2], forall)?;
-        for (book, refusal) in [(&nearly, FIELD), (&fuller, COUNT)] {
+        for book in [&nearly, &fuller] {
             for cut in 1..NUMBER_SIZE {
                 let growth = Growth::Term(forall, [vec![], vec![0; cut]]);
-                expect(book, &growth, Err(refusal), &mut ends)?;
+                expect(book, &growth, Err(FIELD), &mut ends)?;
             }
         }
+        let one_more = Growth::Term(forall, [vec![], vec![0; NUMBER_SIZE]]);
+        expect(&fuller, &one_more, Err(COUNT), &mut ends)?;
         Ok(ends.said())
     });
 }

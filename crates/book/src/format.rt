@@ -47,20 +47,6 @@ pub const CONTEXTS_MOST: usize = 512;
 
 pub const LISTS_MOST: usize = 2048;
 
-// The same as a table.
-pub const LIMITS: [usize; SECTIONS] = [
-    LETTERS_MOST,
-    NAMES_MOST,
-    TYPES_MOST,
-    CONSTANTS_MOST,
-    FUNCTIONS_MOST,
-    AXIOMS_MOST,
-    PATTERNS_MOST,
-    TERMS_MOST,
-    CONTEXTS_MOST,
-    LISTS_MOST,
-];
-
 // A node's depth is at most this.
 pub const DEPTH_MOST: usize = 64;
 

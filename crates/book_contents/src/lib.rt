@@ -9,6 +9,20 @@ use book::count;
 use book::format::*;
 use book::offset;
 
+// The largest count of each section.
+pub const LIMITS: [usize; SECTIONS] = [
+    LETTERS_MOST,
+    NAMES_MOST,
+    TYPES_MOST,
+    CONSTANTS_MOST,
+    FUNCTIONS_MOST,
+    AXIOMS_MOST,
+    PATTERNS_MOST,
+    TERMS_MOST,
+    CONTEXTS_MOST,
+    LISTS_MOST,
+];
+
 // Whether each section begins where the one before ends, and the last ends the book.
 // Ten sections of 28 bytes times a 32-bit count stay far below 2^64.
 fn in_order(book: &[u8]) -> bool

@@ -11,12 +11,13 @@ use Rattle.basics.specs.Buffer.{bufferAfter}
 use Rattle.basics.proofs.Laws.{take-overlay}
 use Rattle.book.specs.Book.{Book}
 use Rattle.book_test.specs.BookTest.{bookTest, ready}
-use Rattle.book_test.proofs.Outcomes.{passed, ready-passed}
-use Rattle.book_growth.specs.Growth.{Addition, grown, growsWithin, Whole}
+use Rattle.book_test.proofs.Outcomes.{passed, ready-passed, test-passed}
+use Rattle.book_growth.specs.Growth.{Addition, grown, growsWithin, Whole, Kept}
 use Rattle.book_growth.specs.Grows.{Grows}
+use Rattle.book_growth.proofs.Grown.{grown-kept}
 use Rattle.book_growth.proofs.GrownProgram.{grown-term, grown-program}
 use Rattle.book_writer.specs.Growths.{Growth, additionOf, outside, handedRight}
-use Rattle.book_writer.specs.Writing.{Grown, grow, Lent, numbers, bookOf, grownLeft, outcomeOf, growCall, newest, write, tookBy, took}
+use Rattle.book_writer.specs.Writing.{Grown, grow, OldKept, Lent, numbers, bookOf, grownLeft, outcomeOf, growCall, newest, write, tookBy, took}
 use Rattle.book_writer.proofs.Recorded.{addition-whole}
 
 -- an addition within the limits makes a book grow, if the new book passes the test
@@ -33,11 +34,12 @@ accepted-is : {A : Type 0} {x y : A} → accepted x ≡ accepted y → x ≡ y
 accepted-is e = cc
 
 -- what an accepted call tells
-pub record Passed (b : Book) (room : ℕ) (x : Grown) : Type 0 where
-  pub grows : Grows b (x .book)
-  pub fits : length (x .book) ≤ room
+record Passed (b : Book) (room : ℕ) (x : Grown) : Type 0 where
+  grows : Grows b (x .book)
+  records : Kept b (x .book)
+  fits : length (x .book) ≤ room
 
-pub grow-passed : (scratch : ℕ) (b : Book) (g : Growth) (room : ℕ) (x : Grown) → grow scratch b g room ≡ accepted x → Passed b room x
+grow-passed : (scratch : ℕ) (b : Book) (g : Growth) (room : ℕ) (x : Grown) → grow scratch b g room ≡ accepted x → Passed b room x
 unfolding grow
 grow-passed scratch b g room x e =
     let a = additionOf b g in
@@ -49,9 +51,15 @@ grow-passed scratch b g room x e =
     let r6 = passed-all (bookTest c) _ (r4 .1) in
     let r10 = passed 10 (ltb room (length c)) _ (r6 .1) in
     let is : c ≡ x .book = ap (λ (z : Grown). z .book) (accepted-is (r10 .1)) in
-    let h : Grows b c =
-    grown-grows b a (ready-passed scratch b (r1 .0) .1) (addition-whole b g) (not-false (growsWithin b a) (r3 .0)) (r6 .0) in
-    record { grows = subst (Grows b) is h; fits = subst (λ (d : Book). length d ≤ room) is (ltb-false room (length c) (r10 .0)) }
+    let ok = ready-passed scratch b (r1 .0) .1 in
+    let within = not-false (growsWithin b a) (r3 .0) in
+    let h : Grows b c = grown-grows b a ok (addition-whole b g) within (r6 .0) in
+    let k : Kept b c = grown-kept b a (test-passed b ok .laid) (addition-whole b g) within in
+    record { grows = subst (Grows b) is h; records = subst (Kept b) is k; fits = subst (λ (d : Book). length d ≤ room) is (ltb-false room (length c) (r10 .0)) }
+
+-- every old record stands in the new book under its number, every old term is what it was, and the program extends
+pub grow-kept : (scratch : ℕ) (b : Book) (g : Growth) (room : ℕ) (x : Grown) → grow scratch b g room ≡ accepted x → OldKept b (x .book)
+grow-kept scratch b g room x e = let p = grow-passed scratch b g room x e in record { grows = p .grows; records = p .records }
 
 outcome-passed : (b : Book) (x : Lent) (y : Grown) → outcomeOf b x ≡ accepted y → Passed b (length (x .buffer)) y
 unfolding outcomeOf

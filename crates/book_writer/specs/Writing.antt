@@ -10,7 +10,8 @@ use Rattle.basics.specs.Buffer.{bufferAfter, scratchAfter}
 use Rattle.book.specs.Refusal.{number}
 use Rattle.book.specs.Book.{Book}
 use Rattle.book_test.specs.BookTest.{bookTest, ready}
-use Rattle.book_growth.specs.Growth.{Addition, grown, growsWithin}
+use Rattle.book_growth.specs.Growth.{grown, growsWithin, Kept}
+use Rattle.book_growth.specs.Grows.{Grows}
 use Rattle.book_writer.specs.Growths.{Growth, additionOf, numberOf, outside, handedRight}
 use Rattle.book_writer.specs.declared.Appended as code
 use Rattle.book_writer.specs.declared.Appended.the-variants as answer
@@ -30,6 +31,12 @@ grow scratch b g room = do
   bookTest (grown b (additionOf b g))
   refuse 10 (ltb room (length (grown b (additionOf b g))))
   accepted (record { number = numberOf b g; book = grown b (additionOf b g) })
+
+-- what an accepted call keeps: the new book passes the test, every old record stands in it under its number, every old term is what it
+-- was, and its program extends the old one (proved in proofs/Writing.antt, grow-kept)
+pub record OldKept (b c : Book) : Type 0 where
+  pub grows : Grows b c
+  pub records : Kept b c
 
 -- ---- the call whole: the answer, and what the lent buffers hold afterwards
 pub record Lent : Type 0 where

@@ -79,15 +79,15 @@ pub fn append_term(
     })
 }
 
-/// The numbers of a list. One that is cut counts as one, whatever it is taken
-/// for: with it the list is handed over wrongly.
+/// The whole numbers of a list. Bytes behind them are no entry, so refusal 3
+/// doesn't count them; with them the list is handed over wrongly.
 fn numbers(list: &[u8]) -> Vec<u32> {
     let number = |bytes: &[u8]| {
         let mut number = [0; NUMBER_SIZE];
-        number[..bytes.len()].copy_from_slice(bytes);
+        number.copy_from_slice(bytes);
         u32::from_le_bytes(number)
     };
-    list.chunks(NUMBER_SIZE).map(number).collect()
+    list.chunks_exact(NUMBER_SIZE).map(number).collect()
 }
 
 /// Appends a node; its trace is a name's number + 1, or 0 for none: refusals 1

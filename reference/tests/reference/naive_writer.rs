@@ -29,9 +29,9 @@ impl Bodies {
         }))
     }
 
-    /// Records of a section; a cut one counts as one.
+    /// Whole records of a section.
     fn count(&self, section: usize) -> usize {
-        self.0[section].len().div_ceil(SIZES[section])
+        self.0[section].len() / SIZES[section]
     }
 
     fn add(&mut self, section: usize, numbers: &[usize]) -> usize {
@@ -67,7 +67,7 @@ impl Bodies {
 
     fn add_list(&mut self, list: &[u8]) -> [usize; 2] {
         let start = self.count(LISTS);
-        self.0[LISTS].extend(list);
+        self.0[LISTS].extend(&list[..list.len() / 4 * 4]);
         match self.count(LISTS) - start {
             0 => [0, 0],
             count => [start, count],

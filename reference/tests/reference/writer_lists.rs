@@ -67,9 +67,9 @@ fn a_long_list_is_three_only_where_the_kind_has_a_range_for_it() {
         let growth = Growth::Term([kind, 0, 0, 0, 0, 0, 0], lists);
         assert_eq!(refusal(&book, &growth), number, "{kind} {at}");
     }
-    // Both together are counted, and a cut number as one.
+    // Both together are counted, but not a number that is cut.
     let half = vec![0; 4 * (Section::Lists.most() / 2)];
-    for (more, number) in [(0, FOREST), (1, COUNT), (4, COUNT)] {
+    for (more, number) in [(0, FOREST), (1, FIELD), (3, FIELD), (4, COUNT)] {
         let mut m = tiny();
         m.pattern(&[]);
         let second = vec![0; half.len() + more];
