@@ -19,6 +19,8 @@ use leskofar_reference::session::UNSAT;
 use std::fs;
 
 const SAMPLES: &str = concat!(env!("CARGO_MANIFEST_DIR"), "/../samples");
+/// How a plan's file ends; lines for `work` stand beside them.
+const PLAN: &str = "plan";
 const SEED: u64 = 0x7374_7269;
 const LISTS: usize = 4_000;
 const CHAINS: usize = 200;
@@ -82,6 +84,9 @@ pub fn run(tally: &mut Tally) {
         )?;
         for file in fs::read_dir(SAMPLES).map_err(|error| error.to_string())? {
             let path = file.map_err(|error| error.to_string())?.path();
+            if path.extension().is_none_or(|kind| kind != PLAN) {
+                continue;
+            }
             let text = fs::read(&path).map_err(|error| error.to_string())?;
             let plan = read(&text, Options::default())
                 .map_err(|error| format!("{}: {error}", path.display()))?;
