@@ -1,5 +1,5 @@
 -- Growth is an order: no count is smaller, a tested book grew from itself, and what grew from a grown book grew from the first.
-use Prim.Native.Nat.{ℕ, _+_, _≤_, _<_}
+use Prim.Native.Nat.{_+_, _≤_}
 use native.Mathlib.Omega.{arith}
 use mathlib.Core.Path.{_≡_, refl, sym, ap, _∙_}
 use mathlib.Core.List.{List, [], append-nil, append-assoc, _++_}

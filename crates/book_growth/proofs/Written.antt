@@ -1,5 +1,5 @@
 -- A grown book as the code writes it: the table by the counts, then the bodies in two parts.
-use Prim.Native.Nat.{ℕ, zero, suc, _+_, _/_, _≤_, _<_}
+use Prim.Native.Nat.{ℕ, _+_, _/_, _≤_, _<_}
 use native.Mathlib.Omega.{arith}
 use mathlib.Core.Path.{_≡_, refl, sym, _∙_}
 use mathlib.Core.Bool.{true}
@@ -11,9 +11,9 @@ use Rattle.basics.proofs.Counting.{below-each}
 use Rattle.book.specs.Book.{Book, letters, names, types, constants, functions, axioms, patterns, terms, contexts, lists, size}
 use Rattle.book.specs.Laid.{sectionAt}
 use Rattle.book_contents.specs.Contents.{laidOut}
-use Rattle.book_layout.specs.Layout.{Bodies, body, countOf, sectionCount, bodyAt, startOf, entryOf, assembled, Fits}
+use Rattle.book_layout.specs.Layout.{body, countOf, sectionCount, bodyAt, entryOf, assembled}
 use Rattle.book_growth.specs.Growth.{Addition, addition, added, grownBody, grown, Whole, growsBy, growsWithin}
-use Rattle.book_layout.specs.Table.{startBy, lineBy, tableBy, Counts}
+use Rattle.book_layout.specs.Table.{tableBy, Counts}
 use Rattle.book_growth.specs.Parts.{grownCount, grownCounts, frontOf, backOf}
 use Rattle.book_layout.proofs.Tables.{table-by}
 use Rattle.book_layout.proofs.EachSection.{each-section}

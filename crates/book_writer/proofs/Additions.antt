@@ -1,27 +1,26 @@
 -- What the code appends is what the definitions say, call by call.
-use Prim.Native.Nat.{ℕ, zero, suc, _+_, _*_, _/_, _≤_, _<_}
+use Prim.Native.Nat.{ℕ, zero, suc, _+_, _*_, _/_, _≤_}
 use native.Mathlib.Omega.{arith}
 use native.Mathlib.Numerals.{add-one}
-use mathlib.Core.Path.{_≡_, refl, sym, ap, subst, _∙_}
+use mathlib.Core.Path.{_≡_, refl, sym, ap, _∙_}
 use mathlib.Core.Option.{Option, none, some}
 use mathlib.Core.Bool.{Bool, true, false}
 use mathlib.Core.List.{List, [], _∷_, _++_, map, append-nil}
 use lib.Dec.{leb}
 use lib.ListN.{length, take}
 use borrow.Author.Tests.{le-leb}
-use Rattle.basics.specs.Bytes.{bytes4, row, rows}
+use Rattle.basics.specs.Bytes.{row, rows}
 use Rattle.basics.specs.Text.{Text}
-use Rattle.book.specs.Book.{Book, letters, names, constants, terms, contexts, lists, size}
+use Rattle.book.specs.Book.{Book, letters, names, terms, lists, size}
 use Rattle.book_growth.specs.Growth.{Addition, addition, Whole}
 use Rattle.new_records.specs.Drafts.{NewTerm, newConstant, newTerm, newNode, rangeStart, nameRow, nameRows, allLetters, constantRow, termRow, nodeRow, additionFrom}
-use Rattle.new_records.specs.Naming.{named, equals, probeNamed, equalsNamed, traceNamed}
+use Rattle.new_records.specs.Naming.{named, equals, traceNamed}
 use Rattle.new_records.specs.NewNames.{optional, newBefore, IsNamed, AreNamed, AreParts}
 use Rattle.new_records.specs.declared.naming.Numbered.{Numbered}
 use Rattle.new_records.specs.declared.naming.ProbeNames.{ProbeNames}
 use Rattle.new_records.specs.declared.naming.NameParts.{NameParts}
-use Rattle.book_writer.specs.Growths.{Growth, termRight, appendName, appendConstant, appendTerm, appendNode, extend, extendWithEquality, rangesOf, filled, entryCount, wholeEntries, termLists, extendDraft, identifier, equality, equalityDraft, probeTerms, probeLists, probeEquality, probeDraftBy, draftOf, additionOf}
+use Rattle.book_writer.specs.Growths.{Growth, termRight, appendName, appendConstant, appendTerm, appendNode, extend, extendWithEquality, rangesOf, filled, entryCount, wholeEntries, termLists, extendDraft, identifier, equality, equalityDraft, probeTerms, probeEquality, probeDraftBy, draftOf, additionOf}
 use Rattle.book_writer.specs.Coded.{appendIn, Appends, IsTermRow, listedBytes, AreRows}
-use Rattle.book_writer.specs.Writing.{Grown}
 use Rattle.book_writer.specs.declared.Appended.{Appended}
 use Rattle.book_writer.specs.declared.probing.ProbeRows.{ProbeRows}
 use Rattle.book_writer.proofs.Recorded.{addition-whole, probe-draft-whole}

@@ -1,21 +1,20 @@
 -- The answer of a call of the writer: a refusal, or the new book.
-use Prim.Native.Nat.{ℕ, _≤_, _<_, min}
+use Prim.Native.Nat.{ℕ, _≤_, _<_}
 use native.Mathlib.Omega.{arith}
 use mathlib.Core.Path.{_≡_, refl, sym, ap, _∙_}
 use mathlib.Core.Bool.{Bool, true, false, not}
-use mathlib.Core.List.{List, [], _∷_}
-use lib.Dec.{ltb}
+use mathlib.Core.List.{List}
 use lib.ListN.{length, take}
 use lib.Seq.{length-take-le}
-use borrow.Author.Tests.{lt-ltb, le-ltb, not-false}
+use borrow.Author.Tests.{lt-ltb, le-ltb}
 use Rattle.basics.specs.Outcome.{Outcome, refused, accepted, refuse, _>>_, mapOutcome}
-use Rattle.basics.specs.Buffer.{overlay, scratchLeast, bufferAfter, scratchAfter}
-use Rattle.basics.specs.Write.{MOST, Wrote, overlayAt, WroteAt}
+use Rattle.basics.specs.Buffer.{scratchLeast, bufferAfter}
+use Rattle.basics.specs.Write.{Wrote, overlayAt, WroteAt}
 use Rattle.basics.proofs.Laws.{take-overlay}
 use Rattle.basics.proofs.Places.{at-length}
 use Rattle.book.specs.Refusal.{number}
 use Rattle.book.specs.declared.Refusal.{Refusal}
-use Rattle.book.specs.declared.Refusal.the-variants.{CountOverLimit, FieldOutOfRange, NotInBook, BufferTooShort}
+use Rattle.book.specs.declared.Refusal.the-variants.{CountOverLimit, FieldOutOfRange, BufferTooShort}
 use Rattle.book.specs.Book.{Book}
 use Rattle.book_test.specs.BookTest.{bookTest, ready, testedValue, bookTestCall}
 use Rattle.book_test.specs.declared.Tested.{Tested}

@@ -2,14 +2,14 @@
 use Prim.Native.Nat.{ℕ, _≤_, _<_}
 use native.Mathlib.Omega.{arith}
 use mathlib.Core.Path.{_≡_, refl, sym, ap, _∙_}
-use mathlib.Core.Bool.{Bool, true, false, not, _||_}
+use mathlib.Core.Bool.{Bool, true, false, not}
 use mathlib.Core.Option.{none, some}
 use mathlib.Core.List.{List}
-use lib.Dec.{leb, ltb}
+use lib.Dec.{leb}
 use lib.ListN.{length, replicate, length-replicate}
 use borrow.Author.Tests.{lt-ltb, le-ltb, not-true, not-false}
 use Rattle.basics.specs.Text.{Text, if_then_else_}
-use Rattle.basics.specs.Outcome.{Outcome, refused, accepted, refuse, _>>_, mapOutcome}
+use Rattle.basics.specs.Outcome.{refused, accepted, refuse, _>>_, mapOutcome}
 use Rattle.basics.specs.Buffer.{scratchLeast, scratchAfter, bufferAfter}
 use Rattle.book.specs.Refusal.{number}
 use Rattle.book.specs.declared.Refusal.{Refusal}
@@ -21,8 +21,8 @@ use Rattle.book_test.specs.declared.Tested.the-variants.{Good, Refused}
 use Rattle.book_test.proofs.Outcomes.{ready-passed}
 use Rattle.book_test.proofs.Promise.{promise}
 use Rattle.new_records.specs.NewNames.{given}
-use Rattle.book_writer.specs.Growths.{Growth, extend, outsideAt, outside, additionOf, handedRight, numberOf}
-use Rattle.book_writer.specs.Writing.{Grown, grow, Lent, lent, numbers, bookOf, grownLeft, outcomeOf, growCall, appendedValue}
+use Rattle.book_writer.specs.Growths.{Growth, extend, outsideAt, outside}
+use Rattle.book_writer.specs.Writing.{grow, lent, grownLeft, outcomeOf, growCall, appendedValue}
 use Rattle.book_writer.specs.Coded.{Spare, Ready, fitted, deliver, appendIn, growBelow, growIn, Appends}
 use Rattle.book_writer.specs.declared.Appended.{Appended}
 use Rattle.book_writer.specs.declared.Appended.the-variants as answer

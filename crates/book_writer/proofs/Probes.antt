@@ -1,22 +1,21 @@
 -- Record and RecordTracePoint: the probe's name by the parent's depth, and both calls by one function.
 use Prim.Native.Nat.{ℕ, _≤_}
 use native.Mathlib.Omega.{arith}
-use mathlib.Core.Path.{_≡_, refl, sym, ap, _∙_}
-use mathlib.Core.Option.{Option, none, some}
-use mathlib.Core.Bool.{Bool, true, false, _||_}
+use mathlib.Core.Path.{_≡_, sym, ap, _∙_}
+use mathlib.Core.Option.{Option}
+use mathlib.Core.Bool.{true, false}
 use mathlib.Core.List.{List}
-use lib.Dec.{ltb, leb}
-use lib.ListN.{length, take, length-take}
+use lib.ListN.{length, take}
 use lib.Seq.{length-take-le}
 use borrow.Author.Tests.{ltb-false}
 use Rattle.basics.proofs.Bool.{or-left}
 use Rattle.basics.specs.Text.{Text}
-use Rattle.book.specs.Book.{Book, terms, contexts, size, depthMost}
+use Rattle.book.specs.Book.{Book, contexts, size}
 use Rattle.book.specs.Program.{path, depth}
 use Rattle.book.specs.Decode.{program}
 use Rattle.contexts.specs.Path.{IsPath}
 use Rattle.contexts.specs.declared.Path as path-code
-use Rattle.name_search.specs.Probe.{probeName, probeMost}
+use Rattle.name_search.specs.Probe.{probeName}
 use Rattle.name_search.specs.ProbeText.{IsProbeName}
 use Rattle.name_search.specs.declared.probe.ProbeName.{ProbeName}
 use Rattle.new_records.specs.NewNames.{given}

@@ -3,7 +3,7 @@ use Prim.Native.Nat.{ℕ, suc, _*_, _/_, _≤_}
 use mathlib.Core.Path.{_≡_}
 use mathlib.Core.Option.{Option, none, some}
 use mathlib.Core.Bool.{Bool, true, false, not}
-use mathlib.Core.List.{List, [], _∷_, _++_, map}
+use mathlib.Core.List.{List, [], _∷_, map}
 use lib.Dec.{ltb}
 use lib.ListN.{length, take}
 use Rattle.basics.specs.Bytes.{row, rows}
@@ -16,7 +16,7 @@ use Rattle.book.specs.Decode.{program}
 use Rattle.name_search.specs.Probe.{probeName}
 use Rattle.book_test.specs.BookTest.{bookTest}
 use Rattle.book_test.specs.Promise.{Promise}
-use Rattle.book_growth.specs.Growth.{Addition, grown, growsWithin, Whole}
+use Rattle.book_growth.specs.Growth.{Addition, grown, growsWithin}
 use Rattle.new_records.specs.Drafts.{NewTerm, newTerm, newNode, newConstant, constantRow, termRow, nodeRow, additionFrom}
 use Rattle.book_writer.specs.Growths.{Growth, entryCount, filled, additionOf, numberOf, outside, handedRight, probeTerms, probeLists, probeEquality, probeDraftBy}
 use Rattle.book_writer.specs.Writing.{Grown, numbers, bookOf, appendedValue}

@@ -1,7 +1,6 @@
 -- A call of the writer: refusals in their order, what an accepted one answers, and what the buffers hold afterwards.
 use Prim.Native.Nat.{ℕ}
-use mathlib.Core.Path.{_≡_}
-use mathlib.Core.Bool.{Bool, not}
+use mathlib.Core.Bool.{not}
 use mathlib.Core.List.{List}
 use lib.Dec.{ltb}
 use lib.ListN.{length, take}

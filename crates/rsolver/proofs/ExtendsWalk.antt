@@ -9,7 +9,6 @@ use Rattle.book.specs.Program.{Axiom, Program}
 use Rattle.book.specs.Extends.{Extends}
 use Rattle.book.proofs.Every.{EveryR}
 use Rattle.book.proofs.ExtendsNodes.{axiomAt-kept}
-use Rattle.solver_expr.specs.Lowering.{literalName}
 use Rattle.rsolver.specs.LevelState.{LevelState, literalPlaces, place, literalPlace, count, nameIn, isDeclaredAt, send, declareAt, miss, levelled}
 use Rattle.rsolver.specs.REngine.{declareLiteral, declareNewSymbols, walk}
 use Rattle.rsolver.proofs.Placed.{MarkerPlaced, LiteralPlaced, placed, PlacedProgram}

@@ -1,16 +1,12 @@
 -- An accepted text fits its buffer, and the host takes it whole.
 use Prim.Native.Nat.{ℕ, _≤_}
-use native.Mathlib.Omega.{arith}
-use mathlib.Core.Path.{_≡_, refl, ap}
-use mathlib.Core.List.{List, [], _∷_}
+use mathlib.Core.Path.{_≡_, refl}
 use mathlib.Core.Option.{Option, none, some}
 use mathlib.Core.Bool.{Bool, true, false, _||_}
 use lib.Dec.{ltb}
-use lib.ListN.{length, take}
+use lib.ListN.{length}
 use borrow.Author.Tests.{ltb-false}
-use Rattle.basics.specs.Text.{Text}
 use Rattle.basics.specs.Outcome.{Outcome, refused, accepted, refuse, _>>_}
-use Rattle.basics.specs.Buffer.{overlay}
 use Rattle.basics.proofs.Bool.{or-left}
 use Rattle.book.specs.Book.{Book}
 use Rattle.solvers.specs.declared.Session.{Session}

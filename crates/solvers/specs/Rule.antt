@@ -1,9 +1,9 @@
 -- What the book alone gives for a node and a question, and what the accepted calls alone give for the present.
 -- A path is written from the node up to the root, the root left out.
-use Prim.Native.Nat.{ℕ, zero, suc, _-_}
+use Prim.Native.Nat.{ℕ, _-_}
 use mathlib.Core.Bool.{Bool, true, false}
 use mathlib.Core.List.{List, [], _∷_, _++_, reverse}
-use lib.ListN.{length, replicate, take}
+use lib.ListN.{replicate, take}
 use Rattle.book.specs.RExpr.{RExpr}
 use Rattle.book.specs.Book.{Book}
 use Rattle.book.specs.Program.{Program, nodeAt, path, depth, shared}

@@ -1,4 +1,3 @@
-use native.Mathlib.Omega.{arith}
 use Rattle.basics.proofs.Places.{at-then, at-as}
 use mathlib.Core.List.{_++_}
 use Rattle.book.specs.Book.{axioms, patterns, terms, contexts, lists}

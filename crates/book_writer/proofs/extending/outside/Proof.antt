@@ -1,5 +1,4 @@
 use native.Mathlib.Omega.{arith}
-use mathlib.Core.Path.{refl, sym, _∙_}
 use Rattle.book_writer.proofs.Calls.{parent-outside, term-decides}
 use borrow.Author.Needs.{needs}
 use Rattle.book_writer.proofs.extending.outside.Statement.{statement}

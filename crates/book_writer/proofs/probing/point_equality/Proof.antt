@@ -1,5 +1,4 @@
 use native.Mathlib.Omega.{arith}
-use mathlib.Core.Path.{refl, sym, _∙_}
 use Rattle.book_writer.proofs.Fields.{equality-point, equality-term}
 use borrow.Author.Needs.{needs}
 use Rattle.book_writer.proofs.probing.point_equality.Statement.{statement}

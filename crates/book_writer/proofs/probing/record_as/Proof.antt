@@ -1,5 +1,5 @@
 use native.Mathlib.Omega.{arith}
-use mathlib.Core.Path.{refl, sym, _∙_}
+use mathlib.Core.Path.{sym}
 use lib.Seq.{length-take-le}
 use Rattle.book_writer.specs.Coded.{probeBy}
 use Rattle.book_writer.proofs.Additions.{append-as, probe-added, probe-whole}

@@ -1,5 +1,4 @@
-use native.Mathlib.Omega.{arith}
-use mathlib.Core.Path.{refl, sym, _∙_}
+use mathlib.Core.Path.{sym, _∙_}
 use Rattle.book_writer.specs.Growths.{outside}
 use Rattle.book_writer.proofs.Calls.{not-in-book, in-book}
 use Rattle.book_writer.proofs.Probes.{inside-parent, recorded}

@@ -1,5 +1,4 @@
 use native.Mathlib.Omega.{arith}
-use mathlib.Core.Path.{refl, sym, _∙_}
 use borrow.Author.Tests.{lt-ltb, le-ltb}
 use Rattle.book_writer.specs.Growths.{outside, recordTracePoint}
 use Rattle.book.specs.Book.{contexts, size}
