@@ -26,11 +26,12 @@ const char HELP_PROGRAM[] =
 const char HELP_CHECK[] =
     "usage: leskofar check BOOK [--raw-names] [--raw-sorts]\n"
     "\n"
-    "Tests a book, a file that `plan book` writes. A bad one gets the number of its\n"
-    "refusal and what it means. Then looks at the names: each must be one token of\n"
-    "SMT-LIB, and no other's. Then at the sorts and the numbers of arguments, of all\n"
-    "operators of SMT-LIB's core and integers, and of functions; other operators are\n"
-    "not checked. The first fault is told, with the number of its record.\n"
+    "Tests a book, a file as `plan book` or `leskofar append` writes it. A bad one\n"
+    "gets the number of its refusal and what it means. Then looks at the names: each\n"
+    "must be one token of SMT-LIB, and no other's. Then at the sorts and the numbers\n"
+    "of arguments, of all operators of SMT-LIB's core and integers, and of functions;\n"
+    "other operators are not checked. The first fault is told, with the number of its\n"
+    "record.\n"
     "\n"
     "  --raw-names   a bad name only gets a warning\n"
     "  --raw-sorts   a bad sort or number of arguments only gets a warning\n"
@@ -126,7 +127,8 @@ const char HELP_PROVE[] =
     "The grown book goes to NEW, which may be BOOK, whole or not at all; old records\n" \
     "keep their numbers. A text that begins with - stands behind a --.\n" \
     "\n" \
-    "Exit status: 0 appended; 2 refused, or wrong usage: then NEW is as it was.\n"
+    "Exit status: 0 appended; 2 refused, wrong usage, or something cannot be\n" \
+    "written: then NEW is as it was, unless only the number cannot be printed.\n"
 
 const char HELP_NEW[] =
     "usage: leskofar new -o BOOK\n"
@@ -211,10 +213,10 @@ const char HELP_WORK[] =
     "text that begins with - stands behind a --. What begins with ; is a comment.\n"
     "Each line is answered at once: by the number that leskofar append and the others\n"
     "print, or as leskofar prove answers a question. The names and sorts of the book\n"
-    "are checked before a question where it has grown. A line that is refused says\n"
-    "so, changes nothing, and the next is read. A line that cannot be read is told\n"
-    "with its number and ends the work, and nothing is written to NEW; so does one\n"
-    "without its line end.\n"
+    "are checked before the first question, and again wherever the book has grown. A\n"
+    "line that is refused says so, changes nothing, and the next is read. A line that\n"
+    "cannot be read is told with its number and ends the work, and nothing is written\n"
+    "to NEW; so does one without its line end.\n"
     "\n"
     "  -o NEW   write the grown book to NEW, which may be BOOK, behind the last line\n"
     "\n"

@@ -25,7 +25,7 @@ const char *refusal_meaning(uint32_t refusal) {
     case LESKOFAR_MISSING_AXIOM:
         return "a function that is needed there is explained by an axiom without a term";
     case LESKOFAR_BUFFER_TOO_SHORT:
-        return "the text is longer than its buffer";
+        return "the text, the reason or the new book is longer than its buffer";
     case LESKOFAR_NO_OPERATOR:
         return "the operator's code is not from 1 to 14";
     case LESKOFAR_NO_SESSION:

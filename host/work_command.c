@@ -35,6 +35,10 @@ struct work {
     bool is_checked; /* the book's names and sorts, since it has grown */
 };
 
+static bool spares_new_book(const struct request *request) {
+    return request->new_book == NULL || inquiry_spares(&request->inquiry, request->new_book, "the new book");
+}
+
 static bool read_request(int count, char **arguments, struct request *request) {
     struct operands operands;
     struct option options[OPTION_COUNT] = {[INQUIRY_OPTIONS] = {.name = "-o", .text = &request->new_book}};
@@ -48,7 +52,7 @@ static bool read_request(int count, char **arguments, struct request *request) {
     }
     request->book = operands.at[0];
     return inquiry_has_memory(&request->inquiry) && inquiry_spares(&request->inquiry, request->book, "the book") &&
-           (request->new_book == NULL || inquiry_spares(&request->inquiry, request->new_book, "the new book"));
+           spares_new_book(request);
 }
 
 /* Tells what is wrong with the book or the question, as a warning or as the question's result, and whether it may still be asked. */
@@ -176,7 +180,8 @@ static enum status work_on(const struct request *request, struct writer *writer)
     work.report = (struct report){.show = show_begin(false),
                                   .is_verbose = inquiry->is_verbose,
                                   .shows_obligations = inquiry->shows_obligations};
-    bool is_done = do_lines(&work);
+    /* Two names of one file that was not there can be told only now that the log is. */
+    bool is_done = spares_new_book(request) && do_lines(&work);
     enum status status = inquiry_end(inquiry, &work.prover, work.report.status);
     bool is_written = is_done && (request->new_book == NULL || command_write(request->new_book, &writer->book));
     return is_written || status > STATUS_REFUSED ? status : STATUS_REFUSED;

@@ -188,7 +188,7 @@ static int keeps_records(size_t length) {
     return 1;
 }
 
-/* The book with each bit turned: refused as the book test refuses it, or grown into a good book that keeps all that was there. */
+/* The book with each bit turned: refused as the book test refuses it, grown into a good book that keeps all that was there, or refused. */
 static void damage_tests(const struct growth_call *call) {
     size_t good_books = 0;
     int are_good = 1;
@@ -206,6 +206,8 @@ static void damage_tests(const struct growth_call *call) {
             good_books++;
             are_good = are_good && keeps_records(answer.length) &&
                        leskofar_book_test(lent.new_book, answer.length, lent.scratch, lent.scratch_len) == LESKOFAR_ACCEPTED;
+        } else {
+            are_good = are_good && was_refused(&lent, answer, answer.refusal);
         }
     }
     expect("damaged books", are_good);

@@ -79,15 +79,17 @@ static leskofar_answer call(int which, const struct book *b, struct desk *d) {
 enum { STATES = 5 };
 
 static void reach(int state, const struct book *b, struct desk *d) {
+    leskofar_answer answer = {.refusal = LESKOFAR_ACCEPTED};
     begin(d);
     if (state == 1 || state == 2) {
-        (void)move_to(b, d, (uint32_t)state);
+        answer = move_to(b, d, (uint32_t)state);
     } else if (state > 2) {
-        (void)ask(b, d, LITERAL_NODE, GOAL);
+        answer = ask(b, d, LITERAL_NODE, GOAL);
     }
-    if (state == 4) {
-        (void)reply(b, d, 1, "sat");
+    if (state == 4 && answer.refusal == LESKOFAR_ACCEPTED) {
+        answer = reply(b, d, 1, "sat");
     }
+    expect("a session to begin with", answer.refusal == LESKOFAR_ACCEPTED);
     memset(d->text, FILL, sizeof d->text);
 }
 

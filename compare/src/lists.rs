@@ -1,9 +1,9 @@
-//! Lists of session calls on one book, the newest where it grows. What is present and owed is taken from
-//! the accepted calls alone, and a reader of their text holds the live levels
-//! against what the book alone gives; where the book's names are sane, the
-//! strict reader of SMT-LIB reads it too. In between come calls on foreign
-//! images, damaged books and short scratches, which leave the list alone; and
-//! the book may grow.
+//! Lists of session calls on one book, the newest where it grows. What is
+//! present and owed is taken from the accepted calls alone, and a reader of
+//! their text holds the live levels against what the book alone gives; where
+//! the book's names are sane, the strict reader of SMT-LIB reads it too. In
+//! between come calls on foreign images, damaged books and short scratches,
+//! which leave the list alone; and the book may grow.
 
 use crate::calls::{Call, Given, Left, Measure};
 use crate::damaged_images::foreign;

@@ -37,7 +37,7 @@ pub fn meaning(number: u32) -> &'static str {
         NOT_IN_BOOK => "the call's node or term is not in the book",
         REPLY_UNSAT => "the model call's reply is `unsat`",
         MISSING_AXIOM => "a declared function's axiom has no term",
-        TOO_LONG => "the text or reason is longer than its buffer",
+        TOO_LONG => "the text, the reason or the new book is longer than its buffer",
         OPERATOR_CODE => "an operator code outside 1 to 14",
         SESSION => "the session is not that of a fresh move to its top node",
         SOMETHING_OWED => "move or ask while a reply or model is owed",

@@ -144,7 +144,7 @@ expect_text 'all premises' '----- Proof obligation:
 
 # What is refused, in words, and nothing is written: a new file is not there, and one that is there is as it was.
 cp "$base" "$grown/kept.book"
-refuses() { # words for the refusal, then the command's, with BOOK for the book
+refuses() { # words for the refusal, then the command's
     wanted=$1
     shift
     for to in "$grown/none.book" "$grown/kept.book" "$new"; do
@@ -198,6 +198,8 @@ for words in 'append name BOOK' 'append name BOOK a b' 'append constant BOOK 1' 
     run $words -o "$grown/none.book"
     expect "$words" 2 "usage: leskofar ${words%% BOOK*}"
 done
+run append name /no/such/book x -o "$grown/none.book"
+expect_said 'no book' 2 'leskofar: /no/such/book: No such file or directory'
 run append name "$base" x
 expect_said 'no file to write' 2 'leskofar: usage: leskofar append name BOOK TEXT -o NEW'
 run point "$base" 0 x

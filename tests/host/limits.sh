@@ -65,10 +65,10 @@ repeated() { # text count
 pairs=$(cut -d ' ' -f 1,2 "$work/huge.goals")
 # shellcheck disable=SC2086
 run listing "$work/huge.book" $pairs
-expect 'a listing that is too long' 2 'refused 10: the text is longer than its buffer'
+expect 'a listing that is too long' 2 'refused 10: the text, the reason or the new book is longer than its buffer'
 # shellcheck disable=SC2086
 run prove "$work/huge.book" $pairs --show-proof-obligations
-expect 'a question whose listing is too long' 2 'the listing is refused 10: the text is longer than its buffer' ': refused 10'
+expect 'a question whose listing is too long' 2 'the listing is refused 10: the text, the reason or the new book is longer than its buffer' ': refused 10'
 expect_not 'a question whose listing is too long' '-----'
 
 # The solver's memory.

@@ -145,6 +145,12 @@ printf 'append term 0 1\nask 0 0\nappend term 0 1\n' >"$lines"
 run_on "$lines" work "$base" --log /dev/full --solver "$stand_in" -o "$worked/unlogged.book"
 expect 'a log on a full disk' 2 '/dev/full cannot be written'
 [ ! -e "$worked/unlogged.book" ] && passed=$((passed + 1)) || fail 'a log on a full disk' 'a book is written'
+# Two names of one file, which is not there yet.
+run_on "$lines" work "$base" -o "$worked/fresh.book" --log "$worked/./fresh.book" --solver "$stand_in"
+expect 'the log as the new book, by another name' 2 "--log $worked/./fresh.book is the new book, which would be overwritten"
+[ ! -s "$out" ] && [ ! -s "$worked/fresh.book" ] && passed=$((passed + 1)) || fail 'the log as the new book, by another name' 'something is done'
+run work /no/such/book
+expect_said 'no book' 2 'leskofar: /no/such/book: No such file or directory'
 run work "$base" 1
 expect 'a node beside the book' 2 'usage: leskofar work BOOK [-o NEW] [OPTIONS]'
 [ -z "$(find "$worked" -name '*.new-*')" ] && passed=$((passed + 1)) || fail 'work' 'a file is left beside'

@@ -11,7 +11,7 @@ expect_same_sent() { # name log log
         fail "$1" "other text: $(sent_in "$2" | diff - "$worked/sent" | head -5)"
 }
 
-# The sample of lines says what the plan of that name says: both solvers are sent the same, and say the same.
+# The sample of lines says what the plan of that name says, but for a trace: both solvers are sent the same, and say the same.
 book_of siblings
 for solver in z3 cvc5; do
     run_on samples/siblings.lines work "$base" -o "$worked/siblings.book" --solver "$solver" --log "$worked/siblings.log"
@@ -90,7 +90,7 @@ stand_in=tests/solvers/unknown.sh
 works
 expect 'a solver that does not know' 1 'Unproved (unknown)'
 
-# Each line is answered before the next is sent, and a host that is killed leaves nobody.
+# Each line is answered before the next is sent, and a host that is ended while it waits for a line leaves nobody.
 cat >"$worked/pids.sh" <<'SOLVER'
 #!/bin/sh
 . tests/solvers/common.sh
@@ -99,31 +99,33 @@ serve
 SOLVER
 chmod +x "$worked/pids.sh"
 mkfifo "$worked/in" "$worked/answer"
-: >"$SOLVER_PIDS"
 begin_talk() {
+    : >"$SOLVER_PIDS"
     export HOST base worked
     # shellcheck disable=SC2016
     timeout -s KILL "$HANGS_AFTER" sh -c 'echo $$ >"$worked/pid"; exec $HOST work "$base" --solver "$worked/pids.sh" -o "$worked/talk.book"' \
         <"$worked/in" >"$worked/answer" 2>"$err" &
     exec 4>"$worked/in" 5<"$worked/answer"
 }
-begin_talk
 answered() { # name line answer
     echo "$2" >&4
     read -r answer <&5
     [ "$answer" = "$3" ] && passed=$((passed + 1)) || fail "$1" "answered '$answer', not '$3'"
 }
-answered 'a term, at once' 'append term 0 1' 0
-answered 'a question, at once' 'ask 0 0' 'node 0, term 0: Proved'
-answered 'a refusal, at once' 'extend 7 7' 'refused 7: the node or term is not in the book'
-answered 'a point, at once' 'point 0 now' 1
-answered 'a question there, at once' 'ask 1 0' 'node 1, term 0: Proved'
-somebody_lives && passed=$((passed + 1)) || fail 'a host at work' 'its solver is gone'
-kill -KILL "$(cat "$worked/pid")"
-nobody_is_left && passed=$((passed + 1)) || fail 'a host that is killed at work' 'a process is left'
-exec 4>&- 5<&-
-wait
-[ ! -e "$worked/talk.book" ] && passed=$((passed + 1)) || fail 'a host that is killed at work' 'a book is written'
+for signal in KILL TERM HUP; do
+    begin_talk
+    answered 'a term, at once' 'append term 0 1' 0
+    answered 'a question, at once' 'ask 0 0' 'node 0, term 0: Proved'
+    answered 'a refusal, at once' 'extend 7 7' 'refused 7: the node or term is not in the book'
+    answered 'a point, at once' 'point 0 now' 1
+    answered 'a question there, at once' 'ask 1 0' 'node 1, term 0: Proved'
+    somebody_lives && passed=$((passed + 1)) || fail 'a host at work' 'its solver is gone'
+    kill -"$signal" "$(cat "$worked/pid")"
+    nobody_is_left && passed=$((passed + 1)) || fail "a host at work that gets $signal" 'a process is left'
+    exec 4>&- 5<&-
+    wait
+    [ ! -e "$worked/talk.book" ] && passed=$((passed + 1)) || fail "a host at work that gets $signal" 'a book is written'
+done
 begin_talk
 answered 'a term in another talk' 'append term 0 1' 0
 answered 'a question in another talk' 'ask 0 0' 'node 0, term 0: Proved'

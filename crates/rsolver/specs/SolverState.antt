@@ -108,7 +108,7 @@ bodies =
       miss = missed;
     }
 
--- the bodies with that Pop. Whatever `wrong` is, they do the same (`Seen.pops` in solvers/specs/StackRule): so no Pop finds an empty stack
+-- the bodies with that Pop. Whatever `wrong` is, they do the same (`Seen.pops` in stack_rule/specs/StackRule): so no Pop finds an empty stack
 abbrev pub bodiesOr : (wrong : Step SolverState) → Methods SolverState
 bodiesOr wrong = withPop (poppedOr wrong) bodies
 

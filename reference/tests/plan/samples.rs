@@ -66,6 +66,8 @@ const GOALS: [(&str, &[(&str, bool)]); 8] = [
         ],
     ),
 ];
+/// How a plan's file ends; lines for `work` stand beside them.
+const PLAN: &str = "plan";
 /// Brute force can't choose functions.
 const NOT_BY_BRUTE_FORCE: [&str; 2] = ["patterns", "shades"];
 
@@ -74,7 +76,7 @@ fn directory() -> PathBuf {
 }
 
 pub fn path(name: &str) -> PathBuf {
-    directory().join(name).with_extension("plan")
+    directory().join(name).with_extension(PLAN)
 }
 
 /// The samples' names and texts.
@@ -92,6 +94,7 @@ fn all_samples_are_listed() {
     let mut found: Vec<PathBuf> = fs::read_dir(directory())
         .expect("the samples are there")
         .map(|entry| entry.expect("an entry").path())
+        .filter(|path| path.extension().is_some_and(|kind| kind == PLAN))
         .collect();
     found.sort();
     assert_eq!(found, GOALS.map(|(name, _)| path(name)));

@@ -35,6 +35,8 @@ pub struct Run<'p, 'b> {
     owed: Owed,
     /// How often each answer came; 0 for accepted.
     pub answers: BTreeMap<u32, usize>,
+    /// How often the book grew while a reply, and while a model was owed.
+    pub grew_while_owed: [usize; 2],
 }
 
 impl<'p, 'b> Run<'p, 'b> {
@@ -49,6 +51,7 @@ impl<'p, 'b> Run<'p, 'b> {
             goal: None,
             owed: Owed::Nothing,
             answers: BTreeMap::new(),
+            grew_while_owed: [0; 2],
         }
     }
 
@@ -57,6 +60,11 @@ impl<'p, 'b> Run<'p, 'b> {
         self.program = program;
         self.engine = self.engine.on(program);
         self.desk.book = book.to_vec();
+        match self.owed {
+            Owed::Nothing => (),
+            Owed::Reply => self.grew_while_owed[0] += 1,
+            Owed::Model => self.grew_while_owed[1] += 1,
+        }
     }
 
     /// A random call with buffers of this size, or narrow ones.

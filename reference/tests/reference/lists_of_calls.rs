@@ -31,13 +31,14 @@ const GROWTHS: usize = 12;
 const CALLS_BETWEEN: usize = 3;
 
 /// Runs a list on a book and those that it grows to, and adds up its answers.
+/// Gives how often the book grew while a reply, and while a model was owed.
 fn run_list(
     random: &mut Random,
     books: &[Vec<u8>],
     calls: usize,
     buffers: usize,
     sum: &mut BTreeMap<u32, usize>,
-) {
+) -> [usize; 2] {
     let passed = |book| check(book).expect("random books pass");
     let programs: Vec<Program> = books.iter().map(|book| passed(book)).collect();
     let mut run = Run::new(&books[0], &programs[0]);
@@ -53,6 +54,7 @@ fn run_list(
     for (answer, times) in run.answers {
         *sum.entry(answer).or_default() += times;
     }
+    run.grew_while_owed
 }
 
 /// A random book, and the books that some growths make of it.
@@ -108,16 +110,19 @@ fn lists_of_calls_on_books_at_every_limit() {
 fn random_lists_of_calls_on_books_that_grow() {
     let mut random = Random::new(SEED);
     let mut answers = BTreeMap::new();
-    let mut growths = 0;
+    let [mut growths, mut replies, mut models] = [0; 3];
     for (size, lists) in GROWING {
         for _ in 0..lists {
             let counts = Counts::random(&mut random, size);
             let books = growing(&mut random, counts);
             growths += books.len() - 1;
-            run_list(&mut random, &books, 1, GROWING_BUFFERS, &mut answers);
+            let owed = run_list(&mut random, &books, 1, GROWING_BUFFERS, &mut answers);
+            replies += owed[0];
+            models += owed[1];
         }
     }
     let met: Vec<u32> = answers.keys().copied().collect();
     assert_eq!(met, [0, 7, 8, 9, 10, 21, 22, 23], "{answers:?}");
     assert!(growths > 2_000, "{growths}");
+    assert!(replies > 100 && models > 100, "{replies} {models}");
 }

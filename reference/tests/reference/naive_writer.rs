@@ -190,8 +190,6 @@ fn add_term(bodies: &mut Bodies, record: &[u32; 7], lists: &[Vec<u8>; 2]) -> (us
         }
         8 => {
             [fields[2], fields[3]] = bodies.add_list(first);
-            // The second list stands behind what the first counts for.
-            bodies.0[LISTS].resize(bodies.count(LISTS) * 4, 0);
             [fields[4], fields[5]] = bodies.add_list(second);
             whole && record[2..=5] == [0; 4]
         }

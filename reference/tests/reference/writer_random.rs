@@ -163,11 +163,11 @@ fn random_growths() {
 }
 
 /// A session that was reached on the old book does the same on the grown one,
-/// with a question open or not.
+/// with a question open or not: replies and models that were owed are taken.
 #[test]
 fn sessions_go_on_while_their_book_grows() {
     let mut random = Random::new(SEED);
-    let [mut grew, mut open] = [0; 2];
+    let [mut grew, mut replies, mut models] = [0; 3];
     for _ in 0..1_000 {
         let counts = Counts::random(&mut random, 6);
         let m = with_free_terms(random_book(&mut random, counts), &mut random);
@@ -184,16 +184,22 @@ fn sessions_go_on_while_their_book_grows() {
             if is_known && random.one_in(OFTEN) {
                 assert_eq!(old.ask(node, goal), new.ask(node, goal));
             } else if random.one_in(OFTEN) {
-                assert_eq!(old.reply(false, b"sat"), new.reply(false, b"sat"));
-                open += 1;
+                let answer = old.reply(false, b"sat");
+                assert_eq!(answer, new.reply(false, b"sat"));
+                replies += usize::from(answer.is_ok());
+            } else if random.one_in(OFTEN) {
+                let answer = old.model(b"sat", None);
+                assert_eq!(answer, new.model(b"sat", None));
+                models += usize::from(answer.is_ok());
             } else {
                 assert_eq!(old.move_to(node), new.move_to(node));
             }
-            assert_eq!(old.model(b"sat", None), new.model(b"sat", None));
             assert_eq!(old.image, new.image);
             old.book = new.book;
             grew += 1;
         }
     }
-    assert!(grew > 1_000 && open > OFTEN_ENOUGH, "{grew} {open}");
+    assert!(grew > 1_000, "{grew}");
+    assert!(replies > OFTEN_ENOUGH, "{replies}");
+    assert!(models > OFTEN_ENOUGH, "{models}");
 }

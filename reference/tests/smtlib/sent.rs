@@ -10,6 +10,8 @@ use leskofar_reference::{ask, fresh_image, print, reply, Replied};
 use std::fs;
 
 const SAMPLES: &str = concat!(env!("CARGO_MANIFEST_DIR"), "/../samples");
+/// How a plan's file ends; lines for `work` stand beside them.
+const PLAN: &str = "plan";
 const SEED: u64 = 20_260_201;
 const CHAINS: usize = 200;
 const TEXT_SIZE: usize = 1 << 16;
@@ -124,8 +126,10 @@ fn plans_and_chains_are_read() {
     Questions::of_plan(NEGATIVE.as_bytes()).assert_read();
     let samples = fs::read_dir(SAMPLES).expect("the samples");
     for sample in samples {
-        let text = fs::read(sample.expect("a sample").path()).expect("a plan");
-        Questions::of_plan(&text).assert_read();
+        let path = sample.expect("a sample").path();
+        if path.extension().is_some_and(|kind| kind == PLAN) {
+            Questions::of_plan(&fs::read(path).expect("a plan")).assert_read();
+        }
     }
     let mut random = Random::new(SEED);
     for _ in 0..CHAINS {
