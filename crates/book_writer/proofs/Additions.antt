@@ -13,16 +13,16 @@ use Rattle.basics.specs.Bytes.{row, rows}
 use Rattle.basics.specs.Text.{Text}
 use Rattle.book.specs.Book.{Book, letters, names, terms, lists, size}
 use Rattle.book_growth.specs.Growth.{Addition, addition, Whole}
-use Rattle.new_records.specs.Drafts.{NewTerm, newConstant, newTerm, newNode, rangeStart, nameRow, nameRows, allLetters, constantRow, termRow, nodeRow, additionFrom}
+use Rattle.new_records.specs.Drafts.{NewTerm, newConstant, identifier, equality, newNode, rangeStart, nameRow, nameRows, allLetters, constantRow, termRow, nodeRow, additionFrom}
 use Rattle.new_records.specs.Naming.{named, equals, traceNamed}
 use Rattle.new_records.specs.NewNames.{optional, newBefore, IsNamed, AreNamed, AreParts}
 use Rattle.new_records.specs.declared.naming.Numbered.{Numbered}
 use Rattle.new_records.specs.declared.naming.ProbeNames.{ProbeNames}
 use Rattle.new_records.specs.declared.naming.NameParts.{NameParts}
-use Rattle.book_writer.specs.Growths.{Growth, termRight, appendName, appendConstant, appendTerm, appendNode, extend, extendWithEquality, rangesOf, filled, entryCount, wholeEntries, termLists, extendDraft, identifier, equality, equalityDraft, probeTerms, probeEquality, probeDraftBy, draftOf, additionOf}
+use Rattle.book_writer.specs.Growths.{Growth, termRight, appendName, appendConstant, appendTerm, appendNode, extend, extendWithEquality, rangesOf, filled, entryCount, wholeEntries, termLists, extendDraft, equalityTerms, equalityDraft, probeTerms, probeEquality, probeDraftBy, draftOf, additionOf}
 use Rattle.book_writer.specs.Coded.{appendIn, Appends, IsTermRow, listedBytes, AreRows}
 use Rattle.book_writer.specs.declared.Appended.{Appended}
-use Rattle.book_writer.specs.declared.probing.ProbeRows.{ProbeRows}
+use Rattle.book_writer.specs.declared.probe_rows.ProbeRows.{ProbeRows}
 use Rattle.book_writer.proofs.Recorded.{addition-whole, probe-draft-whole}
 
 pub whole-as : (b : Book) (g : Growth) {a : Addition} → a ≡ additionOf b g → Whole a
@@ -88,10 +88,10 @@ traced-added b p t trace k {N} {P} {r} ek h parts e =
     by-parts (parts .letters ∙ ap allLetters all) (parts .rows ∙ ap rows (ap (nameRows k) all ∙ ap (λ (m : ℕ). nameRows m (named b trace [] .texts)) ek)) refl refl
     (one-row (p ∷ t ∷ suc (named b trace [] .number) ∷ []) (e ∙ ap (λ (m : ℕ). row (p ∷ t ∷ m ∷ [])) number)) refl
 
-two-terms : (b : Book) (v k n m : ℕ) {r : List ℕ} → n ≡ m → k ≡ size b lists → r ≡ rows (map termRow (newTerm 3 v 0 0 0 0 0 ∷ newTerm 4 n k 2 0 0 0 ∷ []))
-    → r ≡ rows (map termRow (identifier b v ∷ equality b m ∷ []))
-unfolding identifier equality
-two-terms b v k n m en ek e = e ∙ ap (λ (z : ℕ). rows (map termRow (newTerm 3 v 0 0 0 0 0 ∷ newTerm 4 n z 2 0 0 0 ∷ []))) ek ∙ ap (λ (z : ℕ). rows (map termRow (newTerm 3 v 0 0 0 0 0 ∷ newTerm 4 z (size b lists) 2 0 0 0 ∷ []))) en
+two-terms : (b : Book) (v k n m : ℕ) {r : List ℕ} → n ≡ m → k ≡ size b lists → r ≡ rows (map termRow (identifier v ∷ equality n k ∷ []))
+    → r ≡ rows (map termRow (equalityTerms b v m))
+unfolding equalityTerms
+two-terms b v k n m en ek e = rw (← en, ← ek) e
 
 nothing : (n : ℕ) → take {A = ℕ} n [] ≡ []
 nothing zero = refl
@@ -104,7 +104,7 @@ equals-only false = refl
 
 pub equated-added : (b : Book) (p v t k l m : ℕ) {N : Numbered} {P : NameParts} {terms′ node entries x : List ℕ} → k ≡ size b letters → l ≡ size b lists → m ≡ size b terms
     → x ≡ equals → IsNamed b x (newBefore [] false false) N → AreParts k [] false (N .new) [] false P
-    → terms′ ≡ rows (map termRow (newTerm 3 v 0 0 0 0 0 ∷ newTerm 4 (N .number) l 2 0 0 0 ∷ [])) → node ≡ row (p ∷ (m + 1) ∷ 0 ∷ []) → entries ≡ row (m ∷ t ∷ [])
+    → terms′ ≡ rows (map termRow (identifier v ∷ equality (N .number) l ∷ [])) → node ≡ row (p ∷ (m + 1) ∷ 0 ∷ []) → entries ≡ row (m ∷ t ∷ [])
     → addition (take (P .«letters_length») (P .letters) ++ []) (take (P .«rows_length») (P .rows)) [] terms′ node (entries ++ []) ≡ additionOf b (extendWithEquality p v t)
 unfolding additionOf draftOf equalityDraft additionFrom nodeRow newBefore optional rows
 equated-added b p v t k l m {N} {P} {terms′} {node} {entries} {x} ek el em ex hx parts et en ee =

@@ -31,8 +31,7 @@ unfolding appendedValue mapOutcome bufferAfter
 copied-refused why t e = record { answer = rw e; buffer = rw e }
 
 pub refused-with : {o : Outcome Grown} (why : Refusal) (t s : List ℕ) → o ≡ refused (number why) → Appends o (answer.Refused why) t t s s
-unfolding appendedValue mapOutcome bufferAfter
-refused-with why t s e = record { answer = rw e; buffer = rw e; scratch = refl }
+refused-with why t s e = record { copied = copied-refused why t e; scratch = refl }
 
 -- ---- a new book that passed its test: it fits, or not
 pub copied-short : (c : Book) (n : ℕ) {t : List ℕ} → length t < length c → Copied (fitted c n (length t)) (answer.Refused BufferTooShort) t t
@@ -72,7 +71,7 @@ module _ (c : Book) (s : List ℕ) (S : Spare s) (d : Tested) {s1 : List ℕ} (t
   unfolding deliver testedValue _>>_
   test-good n room e a =
       let ok : bookTest c ≡ accepted tt = sym tested-as ∙ ap testedValue e in
-      record { answer = rw ok (a .answer); buffer = rw ok (a .buffer); scratch = clean-again }
+      record { copied = rw ok a; scratch = clean-again }
 
 -- ---- behind refusal 7
 module _ (b : Book) (a : Addition) (right : Bool) (n : ℕ) (t s : List ℕ) where

@@ -8,7 +8,7 @@ use mathlib.Core.List.{List}
 use lib.Dec.{leb}
 use lib.ListN.{length, replicate, length-replicate}
 use borrow.Author.Tests.{lt-ltb, le-ltb, not-true, not-false}
-use Rattle.basics.specs.Text.{Text, if_then_else_}
+use Rattle.basics.specs.Text.{Text}
 use Rattle.basics.specs.Outcome.{refused, accepted, refuse, _>>_, mapOutcome}
 use Rattle.basics.specs.Buffer.{scratchLeast, scratchAfter, bufferAfter}
 use Rattle.book.specs.Refusal.{number}
@@ -22,7 +22,7 @@ use Rattle.book_test.proofs.Outcomes.{ready-passed}
 use Rattle.book_test.proofs.Promise.{promise}
 use Rattle.new_records.specs.NewNames.{given}
 use Rattle.book_writer.specs.Growths.{Growth, extend, outsideAt, outside}
-use Rattle.book_writer.specs.Writing.{grow, lent, grownLeft, outcomeOf, growCall, appendedValue}
+use Rattle.book_writer.specs.Writing.{grow, lent, grownLeft, outcomeOf, growCall, appendedValue, Returned}
 use Rattle.book_writer.specs.Coded.{Spare, Ready, fitted, deliver, appendIn, growBelow, growIn, Appends}
 use Rattle.book_writer.specs.declared.Appended.{Appended}
 use Rattle.book_writer.specs.declared.Appended.the-variants as answer
@@ -40,10 +40,6 @@ spare s h =
     rw z (record { long = omega arith; clean = zeros (replicate (length s) 0) (omega arith) ∙ ap (λ (n : ℕ). replicate n 0) l })
 
 -- ---- the call whole
--- what a call leaves of the new book's buffer t and a scratch s
-abbrev pub Left : Book → Growth → (s t : List ℕ) → Appended → (t1 s1 : List ℕ) → Type 0
-Left b g s t r t1 s1 = (appendedValue r ≡ growCall b (lent g s t) .answer) × (t1 ≡ growCall b (lent g s t) .buffer) × (s1 ≡ growCall b (lent g s t) .scratch)
-
 by-steps : (scratch : ℕ) (b : Book) (g : Growth) (room : ℕ) → grow scratch b g room ≡ (ready scratch b >> growIn b g room)
 unfolding grow growIn growBelow appendIn deliver fitted
 by-steps scratch b g room = refl
@@ -66,15 +62,15 @@ module _ (b : Book) (s : List ℕ) (d : Tested) {s1 : List ℕ} (tested : (teste
       let r = ready-passed (length s) b (passed e) in
       record { tested = r .1; promise = promise b (r .1); spare = rw scratch-left (spare s (r .0)) }
 
-  pub call-refused : (g : Growth) (t : List ℕ) {why : Refusal} → d ≡ Refused why → Left b g s t (answer.Refused why) t s1
+  pub call-refused : (g : Growth) (t : List ℕ) {why : Refusal} → d ≡ Refused why → Returned (growCall b (lent g s t)) (answer.Refused why) t s1
   unfolding growCall grownLeft outcomeOf appendedValue mapOutcome bufferAfter _>>_
   call-refused g t {why} e =
       let stopped : ready (length s) b ≡ refused (number why) = sym answered ∙ refused-as e in
-      rw (by-steps (length s) b g (length t), stopped) (refl, refl, scratch-left)
+      rw (by-steps (length s) b g (length t), stopped) (record { answer = refl; buffer′ = refl; scratch′ = scratch-left })
 
-  pub call-good : (g : Growth) (t : List ℕ) {r : Appended} {t1 s2 : List ℕ} → d ≡ Good → Appends (growIn b g (length t)) r t t1 s1 s2 → Left b g s t r t1 s2
+  pub call-good : (g : Growth) (t : List ℕ) {r : Appended} {t1 s2 : List ℕ} → d ≡ Good → Appends (growIn b g (length t)) r t t1 s1 s2 → Returned (growCall b (lent g s t)) r t1 s2
   unfolding growCall grownLeft outcomeOf _>>_
-  call-good g t e a = rw (by-steps (length s) b g (length t), passed e) (a .answer, a .buffer, a .scratch ∙ scratch-left)
+  call-good g t e a = rw (by-steps (length s) b g (length t), passed e) (record { answer = a .copied .answer; buffer′ = a .copied .buffer; scratch′ = a .scratch ∙ scratch-left })
 
 -- ---- refusal 7
 module _ (b : Book) (g : Growth) where

@@ -13,11 +13,11 @@ use Rattle.basics.specs.Bytes.{bytes4, row, rows}
 use Rattle.basics.specs.Write.{MOST, WroteAt}
 use Rattle.basics.proofs.Places.{at-then, at-as, at-none, at-taken, at-length}
 use Rattle.book.specs.Book.{Book, constants, terms, lists, size}
-use Rattle.new_records.specs.Drafts.{NewTerm, newTerm, rangeStart, constantRow, termRow, nodeRow}
-use Rattle.book_writer.specs.Growths.{rangesOf, filled, entryCount, isWhole, rangeRight, termRight, identifier, equality, probeTerms, probeLists, probeEquality}
+use Rattle.new_records.specs.Drafts.{NewTerm, trueTerm, identifier, equality, rangeStart, constantRow, termRow, nodeRow}
+use Rattle.book_writer.specs.Growths.{rangesOf, filled, entryCount, isWhole, rangeRight, termRight, equalityTerms, probeTerms, probeLists, probeEquality}
 use Rattle.book_writer.specs.Coded.{IsTermRow, listedBytes, termOf, trueIf, AreTerms, AreRows}
-use Rattle.book_writer.specs.declared.probing.PointTerms.{PointTerms}
-use Rattle.book_writer.specs.declared.probing.ProbeRows.{ProbeRows}
+use Rattle.book_writer.specs.declared.probe_rows.PointTerms.{PointTerms}
+use Rattle.book_writer.specs.declared.probe_rows.ProbeRows.{ProbeRows}
 
 -- ---- kinds and lists
 pub ranges-other : (k : ℕ) → ¬ (k ≡ 4) → ¬ (k ≡ 5) → ¬ (k ≡ 8) → 0 ≡ rangesOf k
@@ -93,7 +93,7 @@ unfolding trueIf
 true-none point o h = rw (not-true point h) (at-none 0 o (omega arith))
 
 pub true-some : (point : Bool) {x o o1 : List ℕ} {r : ℕ} → not point ≡ false → x ≡ row (0 ∷ 1 ∷ 0 ∷ 0 ∷ 0 ∷ 0 ∷ 0 ∷ []) → WroteAt x 0 o o1 r → WroteAt (trueIf point) 0 o o1 r
-unfolding trueIf termRow
+unfolding trueIf termRow trueTerm
 true-some point h e w = rw (not-false point h) (rw e at w)
 
 pub entries-point : (b : Book) (point : Bool) (t : ℕ) {m : ℕ} {r : List ℕ} → m ≡ size b terms → point ≡ true → r ≡ row ((m + 1) ∷ m ∷ []) → r ≡ probeLists b (termOf point t)
@@ -113,22 +113,22 @@ unfolding probeEquality termOf
 equality-term b point t em h = rw h (omega arith)
 
 -- the terms in two parts
-terms-are : (b : Book) (point : Bool) (operator t : ℕ) → trueIf point ++ rows (map termRow (identifier b (size b constants) ∷ equality b operator ∷ [])) ≡ rows (map termRow (probeTerms b operator (termOf point t)))
+terms-are : (b : Book) (point : Bool) (operator t : ℕ) → trueIf point ++ rows (map termRow (equalityTerms b (size b constants) operator)) ≡ rows (map termRow (probeTerms b operator (termOf point t)))
 unfolding trueIf probeTerms termOf rows
 terms-are b true operator t = refl
 terms-are b false operator t = refl
 
 terms-length : (b : Book) (point : Bool) (operator t : ℕ) → length (rows (map termRow (probeTerms b operator (termOf point t)))) ≤ 84
-unfolding probeTerms termOf rows row termRow bytes4 identifier equality
+unfolding probeTerms equalityTerms termOf rows row termRow bytes4 trueTerm identifier equality
 terms-length b true operator t = omega arith
 terms-length b false operator t = omega arith
 
 pub terms-done : (b : Book) (point : Bool) (operator t : ℕ) {c l r1 r : ℕ} {x o o1 o2 : List ℕ} → c ≡ size b constants → l ≡ size b lists
-    → x ≡ rows (map termRow (newTerm 3 c 0 0 0 0 0 ∷ newTerm 4 operator l 2 0 0 0 ∷ [])) → length o ≡ 84 → WroteAt (trueIf point) 0 o o1 r1 → WroteAt x r1 o1 o2 r
+    → x ≡ rows (map termRow (identifier c ∷ equality operator l ∷ [])) → length o ≡ 84 → WroteAt (trueIf point) 0 o o1 r1 → WroteAt x r1 o1 o2 r
     → AreTerms (rows (map termRow (probeTerms b operator (termOf point t)))) (record { bytes = o2; length = r })
 terms-done b point operator t {c} {l} {r1} {r} {x} {o} ec el ex long w1 w2 =
     let all = rows (map termRow (probeTerms b operator (termOf point t))) in
-    let is : x ≡ rows (map termRow (identifier b (size b constants) ∷ equality b operator ∷ [])) = unfold identifier equality in rw (← ec, ← el) ex in
+    let is : x ≡ rows (map termRow (equalityTerms b (size b constants) operator)) = unfold equalityTerms in rw (← ec, ← el) ex in
     let short : length o < MOST + 1 = omega arith in
     let w : WroteAt all 0 o _ r = at-as (terms-are b point operator t) (at-then short w1 (at-as is w2)) in
     let few = terms-length b point operator t in

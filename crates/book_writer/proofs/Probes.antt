@@ -11,7 +11,7 @@ use borrow.Author.Tests.{ltb-false}
 use Rattle.basics.proofs.Bool.{or-left}
 use Rattle.basics.specs.Text.{Text}
 use Rattle.book.specs.Book.{Book, contexts, size}
-use Rattle.book.specs.Program.{path, depth}
+use Rattle.book.specs.Program.{depth}
 use Rattle.book.specs.Decode.{program}
 use Rattle.contexts.specs.Path.{IsPath}
 use Rattle.contexts.specs.declared.Path as path-code

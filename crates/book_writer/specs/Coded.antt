@@ -1,5 +1,5 @@
 -- What the code's functions ask for and give.
-use Prim.Native.Nat.{ℕ, suc, _*_, _/_, _≤_}
+use Prim.Native.Nat.{ℕ, suc, _+_, _*_, _/_, _≤_}
 use mathlib.Core.Path.{_≡_}
 use mathlib.Core.Option.{Option, none, some}
 use mathlib.Core.Bool.{Bool, true, false, not}
@@ -10,20 +10,20 @@ use Rattle.basics.specs.Bytes.{row, rows}
 use Rattle.basics.specs.Text.{Text}
 use Rattle.basics.specs.Outcome.{Outcome, accepted, refuse, _>>_, mapOutcome}
 use Rattle.basics.specs.Buffer.{scratchLeast, bufferAfter, scratchAfter}
-use Rattle.book.specs.Book.{Book, contexts, size}
+use Rattle.book.specs.Book.{Book, terms, contexts, size}
 use Rattle.book.specs.Program.{depth}
 use Rattle.book.specs.Decode.{program}
 use Rattle.name_search.specs.Probe.{probeName}
 use Rattle.book_test.specs.BookTest.{bookTest}
 use Rattle.book_test.specs.Promise.{Promise}
 use Rattle.book_growth.specs.Growth.{Addition, grown, growsWithin}
-use Rattle.new_records.specs.Drafts.{NewTerm, newTerm, newNode, newConstant, constantRow, termRow, nodeRow, additionFrom}
+use Rattle.new_records.specs.Drafts.{NewTerm, newTerm, trueTerm, newNode, newConstant, constantRow, termRow, nodeRow, additionFrom}
 use Rattle.book_writer.specs.Growths.{Growth, entryCount, filled, additionOf, numberOf, outside, handedRight, probeTerms, probeLists, probeEquality, probeDraftBy}
 use Rattle.book_writer.specs.Writing.{Grown, numbers, bookOf, appendedValue}
 use Rattle.book_writer.specs.declared.Appended as code
-use Rattle.book_writer.specs.declared.records.TermFields as fields-code
-use Rattle.book_writer.specs.declared.probing.ProbeRows as rows-code
-use Rattle.book_writer.specs.declared.probing.PointTerms as terms-code
+use Rattle.book_writer.specs.declared.terms.TermFields as fields-code
+use Rattle.book_writer.specs.declared.probe_rows.ProbeRows as rows-code
+use Rattle.book_writer.specs.declared.probe_rows.PointTerms as terms-code
 
 -- a scratch as a call leaves it that was not refused with 1: long enough, and all zero
 pub record Spare (scratch : List ℕ) : Type 0 where
@@ -71,8 +71,7 @@ pub record Copied (o : Outcome Grown) (r : code.Appended) (t t' : List ℕ) : Ty
 
 -- the same, and the scratch s is all zero again
 pub record Appends (o : Outcome Grown) (r : code.Appended) (t t' s s' : List ℕ) : Type 0 where
-  pub answer : appendedValue r ≡ mapOutcome numbers o
-  pub buffer : t' ≡ bufferAfter o bookOf t
+  pub copied : Copied o r t t'
   pub scratch : s' ≡ s
 
 -- ---- append_term
@@ -100,7 +99,7 @@ unfoldable pub probeBelow : Book → (parent : ℕ) → Option ℕ → (typ : �
 probeBelow b p t typ trace room = probeBy b (probeName (depth (program b) p)) p t typ trace room
 
 unfoldable pub trueIf : (point : Bool) → List ℕ
-trueIf true = row (termRow (newTerm 0 1 0 0 0 0 0))
+trueIf true = row (termRow trueTerm)
 trueIf false = []
 
 pub record AreTerms (terms : List ℕ) (r : terms-code.PointTerms) : Type 0 where
@@ -109,7 +108,7 @@ pub record AreTerms (terms : List ℕ) (r : terms-code.PointTerms) : Type 0 wher
 
 pub record IsEquality (b : Book) (term : Option ℕ) (r : ℕ) : Type 0 where
   pub is : r ≡ probeEquality b term
-  pub low : r ≤ 1026
+  pub low : r ≤ terms .most + 2
 
 pub record AreRows (b : Book) (probe operator trace parent typ : ℕ) (term : Option ℕ) (r : rows-code.ProbeRows) : Type 0 where
   pub constant : r .constant ≡ rows (map constantRow (newConstant probe typ ∷ []))

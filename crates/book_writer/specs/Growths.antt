@@ -13,7 +13,7 @@ use Rattle.book.specs.Program.{depth}
 use Rattle.book.specs.Decode.{program}
 use Rattle.book_growth.specs.Growth.{Addition}
 use Rattle.name_search.specs.Probe.{probeName}
-use Rattle.new_records.specs.Drafts.{NewTerm, Draft, newConstant, newTerm, newNode, draft, rangeStart, additionFrom}
+use Rattle.new_records.specs.Drafts.{NewTerm, Draft, newConstant, newTerm, trueTerm, identifier, equality, newNode, draft, rangeStart, additionFrom}
 use Rattle.new_records.specs.Naming.{named, equals, probeNamed, equalsNamed, traceNamed}
 
 -- the last four are Extend, ExtendWithEquality, Record and RecordTracePoint of RSolver.dfy
@@ -94,22 +94,19 @@ module _ (b : Book) where
   extendDraft p t (some trace) = let n = named b trace [] in draft (n .texts) [] [] (newNode p t (suc (n .number)) ∷ []) []
 
   -- the terms of an equality: the constant, and the operator's application to constant and term
-  unfoldable pub identifier : (constant : ℕ) → NewTerm
-  identifier v = newTerm 3 v 0 0 0 0 0
-
-  unfoldable pub equality : (operator : ℕ) → NewTerm
-  equality operator = newTerm 4 operator (size b lists) 2 0 0 0
+  unfoldable pub equalityTerms : (constant operator : ℕ) → List NewTerm
+  equalityTerms v operator = identifier v ∷ equality operator (size b lists) ∷ []
 
   unfoldable pub equalityDraft : (parent constant term : ℕ) → Draft
   equalityDraft p v t =
       let operator = named b equals [] in
       let id = size b terms in
-      draft (operator .texts) [] (identifier v ∷ equality (operator .number) ∷ []) (newNode p (suc id) 0 ∷ []) (row (id ∷ t ∷ []))
+      draft (operator .texts) [] (equalityTerms v (operator .number)) (newNode p (suc id) 0 ∷ []) (row (id ∷ t ∷ []))
 
   -- RecordTracePoint has no term: `true` is a new one, before the others
   unfoldable pub probeTerms : (operator : ℕ) → Option ℕ → List NewTerm
-  probeTerms operator (some t) = identifier (size b constants) ∷ equality operator ∷ []
-  probeTerms operator none = newTerm 0 1 0 0 0 0 0 ∷ identifier (size b constants) ∷ equality operator ∷ []
+  probeTerms operator (some t) = equalityTerms (size b constants) operator
+  probeTerms operator none = trueTerm ∷ equalityTerms (size b constants) operator
 
   unfoldable pub probeLists : Option ℕ → List ℕ
   probeLists (some t) = row (size b terms ∷ t ∷ [])

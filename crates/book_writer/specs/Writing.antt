@@ -1,5 +1,6 @@
 -- A call of the writer: refusals in their order, what an accepted one answers, and what the buffers hold afterwards.
 use Prim.Native.Nat.{ℕ}
+use mathlib.Core.Path.{_≡_}
 use mathlib.Core.Bool.{not}
 use mathlib.Core.List.{List}
 use lib.Dec.{ltb}
@@ -74,6 +75,12 @@ lent g scratch buffer = record { growth = g; scratch = scratch; buffer = buffer 
 unfoldable pub appendedValue : code.Appended → Outcome Numbers
 appendedValue (answer.Record n length) = accepted (record { number = n; length = length })
 appendedValue (answer.Refused r) = refused (number r)
+
+-- THE CALLS' code: answer, new book's buffer and scratch are the definition's
+pub record Returned (l : GrownLeft) (r : code.Appended) (buffer scratch : List ℕ) : Type 0 where
+  pub answer : appendedValue r ≡ l .answer
+  pub buffer′ : buffer ≡ l .buffer
+  pub scratch′ : scratch ≡ l .scratch
 
 -- ---- the books of a host that calls the writer: the newest, by the calls' outcomes, and by their answers and buffers
 unfoldable pub newest : Book → Outcome Book → Book

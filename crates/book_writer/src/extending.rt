@@ -7,7 +7,7 @@ ghost use Rattle.book.specs.Book.{contexts, size};
 ghost use Rattle.book_test.specs.Promise.{Promise};
 ghost use Rattle.new_records.specs.NewNames.{given};
 ghost use Rattle.book_writer.specs.Growths.{extend, extendWithEquality, outsideAt};
-ghost use Rattle.book_writer.specs.Writing.{lent, growCall, appendedValue};
+ghost use Rattle.book_writer.specs.Writing.{lent, growCall, Returned};
 ghost use Rattle.book_writer.specs.Coded.{Ready, growBelow, growIn, Appends};
 use super::Appended;
 use super::appending::append;
@@ -153,7 +153,7 @@ pub fn extend<'a>(
     trace: &'a [u8],
     out: &mut [u8],
 ) -> Appended
-    ensures { λ r. ⌜ (appendedValue r ≡ growCall (now (book .entry)) (lent (extend parent term (given traced (now (trace .entry)))) (now (scratch .entry)) (now (out .entry))) .answer) × (now (out .exit) ≡ growCall (now (book .entry)) (lent (extend parent term (given traced (now (trace .entry)))) (now (scratch .entry)) (now (out .entry))) .buffer) × (now (scratch .exit) ≡ growCall (now (book .entry)) (lent (extend parent term (given traced (now (trace .entry)))) (now (scratch .entry)) (now (out .entry))) .scratch) ⌝ }
+    ensures { λ r. ⌜ Returned (growCall (now (book .entry)) (lent (extend parent term (given traced (now (trace .entry)))) (now (scratch .entry)) (now (out .entry)))) r (now (out .exit)) (now (scratch .exit)) ⌝ }
 {
     match book_test(book, scratch) {
         Tested::Refused(why) => Appended::Refused(why),
@@ -232,7 +232,7 @@ pub fn extend_with_equality(
     term: u32,
     out: &mut [u8],
 ) -> Appended
-    ensures { λ r. ⌜ (appendedValue r ≡ growCall (now (book .entry)) (lent (extendWithEquality parent constant term) (now (scratch .entry)) (now (out .entry))) .answer) × (now (out .exit) ≡ growCall (now (book .entry)) (lent (extendWithEquality parent constant term) (now (scratch .entry)) (now (out .entry))) .buffer) × (now (scratch .exit) ≡ growCall (now (book .entry)) (lent (extendWithEquality parent constant term) (now (scratch .entry)) (now (out .entry))) .scratch) ⌝ }
+    ensures { λ r. ⌜ Returned (growCall (now (book .entry)) (lent (extendWithEquality parent constant term) (now (scratch .entry)) (now (out .entry)))) r (now (out .exit)) (now (scratch .exit)) ⌝ }
 {
     match book_test(book, scratch) {
         Tested::Refused(why) => Appended::Refused(why),

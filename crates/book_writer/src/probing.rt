@@ -1,145 +1,33 @@
-// RSolver.dfy: Record and RecordTracePoint. They differ in the term: a trace point's is a new `true`.
-ghost use mathlib.Core.Path.{_≡_};
-ghost use mathlib.Core.List.{map};
+// RSolver.dfy: Record and RecordTracePoint.
 ghost use Prim.Native.Nat.{_≤_};
 ghost use lib.ListN.{length};
-ghost use Rattle.basics.specs.Bytes.{rows};
-ghost use Rattle.basics.specs.Write.{WroteAt};
 ghost use Rattle.book.specs.Book.{contexts, size};
-ghost use Rattle.book_test.specs.Promise.{Promise};
-ghost use Rattle.new_records.specs.Drafts.{termRow};
+ghost use Rattle.name_search.specs.Probe.{probeMost};
 ghost use Rattle.new_records.specs.NewNames.{given};
-ghost use Rattle.book_writer.specs.Growths.{recordTerm, recordTracePoint, probeTerms, probeLists};
-ghost use Rattle.book_writer.specs.Writing.{lent, growCall, appendedValue};
-ghost use Rattle.book_writer.specs.Coded.{Ready, IsEquality, growIn, probeBelow, probeBy, trueIf, termOf, AreRows, AreTerms, Appends};
+ghost use Rattle.book_writer.specs.Growths.{recordTerm, recordTracePoint};
+ghost use Rattle.book_writer.specs.Writing.{lent, growCall, Returned};
+ghost use Rattle.book_writer.specs.Coded.{Ready, growIn, probeBelow, probeBy, termOf, Appends};
 use super::Appended;
 use super::appending::append;
 use super::extending::next_node;
 use super::extending::outside;
-use basics::put_at;
+use super::probe_rows::probe_rows;
 use book::Refusal;
 use book::count;
-use book::format::BOOLEAN;
-use book::format::CONSTANTS;
 use book::format::CONTEXTS;
 use book::format::LETTERS;
-use book::format::LISTS;
-use book::format::TERMS;
 use book_test::Tested;
 use book_test::book_test;
 use contexts::path_of;
 use name_search::probe_name;
-use new_records::equality;
 use new_records::name_parts;
 use new_records::probe_names;
-use new_records::row2;
-use new_records::row3;
-use new_records::row7;
 
-// The value of `true`, and the type of a trace point's constant.
-const TRUE: usize = 1;
-
+// The type of a trace point's constant.
 const BOOL: u32 = 0;
 
 // What a trace point's place for a term holds; nobody reads it.
 const NO_TERM: u32 = 0;
-
-const THREE_TERMS: usize = 84;
-
-// The terms, and how many bytes of them there are.
-pub struct PointTerms {
-    pub bytes: [u8; THREE_TERMS],
-    pub length: usize,
-}
-
-// The rows of the new constant, terms, node and list entries.
-pub struct ProbeRows {
-    pub constant: [u8; 8],
-    pub terms: [u8; THREE_TERMS],
-    pub terms_length: usize,
-    pub node: [u8; 12],
-    pub entries: [u8; 8],
-}
-
-// Writes the term `true`, if it is a trace point.
-fn put_true(point: bool, out: &mut [u8]) -> usize
-    ensures { λ r. ⌜ WroteAt (trueIf point) 0 (now (out .entry)) (now (out .exit)) r ⌝ }
-{
-    if !point {
-        return 0;
-    }
-    let row = row7(BOOLEAN, TRUE, 0, 0, 0, 0, 0);
-    put_at(&row, 0, out)
-}
-
-fn point_terms(book: &[u8], point: bool, operator: usize, term: u32) -> PointTerms
-    requires { ⌜ Promise (now book) ⌝ }
-    ensures { λ r. ⌜ AreTerms (rows (map termRow (probeTerms (now (book .entry)) operator (termOf point term)))) r ⌝ }
-{
-    let equal = equality(count(book, CONSTANTS), operator, count(book, LISTS));
-    let mut bytes = [0; THREE_TERMS];
-    let next = put_true(point, &mut bytes);
-    let length = put_at(&equal, next, &mut bytes);
-    PointTerms {
-        bytes: bytes,
-        length: length,
-    }
-}
-
-// The equality's arguments: the constant, and the term or the new `true` before it.
-fn point_entries(book: &[u8], point: bool, term: u32) -> [u8; 8]
-    requires { ⌜ Promise (now book) ⌝ }
-    ensures { λ r. ⌜ r ≡ probeLists (now (book .entry)) (termOf point term) ⌝ }
-{
-    let terms = count(book, TERMS);
-    if point {
-        return row2(terms + 1, terms);
-    }
-    row2(terms, term as usize)
-}
-
-// The equality's number.
-fn point_equality(book: &[u8], point: bool, term: u32) -> usize
-    requires { ⌜ Promise (now book) ⌝ }
-    ensures { λ r. ⌜ IsEquality (now (book .entry)) (termOf point term) r ⌝ }
-{
-    let terms = count(book, TERMS);
-    if point {
-        return terms + 2;
-    }
-    terms + 1
-}
-
-fn probe_rows(
-    book: &[u8],
-    probe: usize,
-    operator: usize,
-    trace: usize,
-    parent: u32,
-    typ: u32,
-    point: bool,
-    term: u32,
-) -> ProbeRows
-    requires { ⌜ Promise (now book) × (trace ≤ 514) ⌝ }
-    ensures { λ r. ⌜ AreRows (now (book .entry)) probe operator trace parent typ (termOf point term) r ⌝ }
-{
-    let constant = row2(probe, typ as usize);
-    let terms = point_terms(book, point, operator, term);
-    let bytes = terms.bytes;
-    let node = row3(
-        parent as usize,
-        point_equality(book, point, term),
-        trace + 1,
-    );
-    let entries = point_entries(book, point, term);
-    ProbeRows {
-        constant: constant,
-        terms: bytes,
-        terms_length: terms.length,
-        node: node,
-        entries: entries,
-    }
-}
 
 // With the probe's name.
 fn record_as<'a>(
@@ -154,7 +42,7 @@ fn record_as<'a>(
     trace: &'a [u8],
     out: &mut [u8],
 ) -> Appended
-    requires { ⌜ Ready (now book) (now scratch) × (length (now probe) ≤ 8) ⌝ }
+    requires { ⌜ Ready (now book) (now scratch) × (length (now probe) ≤ probeMost) ⌝ }
     ensures { λ r. ⌜ Appends (probeBy (now (book .entry)) (now (probe .entry)) parent (termOf point term) typ (given traced (now (trace .entry))) (length (now (out .entry)))) r (now (out .entry)) (now (out .exit)) (now (scratch .entry)) (now (scratch .exit)) ⌝ }
 {
     let names = probe_names(book, probe, traced, trace);
@@ -263,7 +151,7 @@ pub fn record<'a>(
     trace: &'a [u8],
     out: &mut [u8],
 ) -> Appended
-    ensures { λ r. ⌜ (appendedValue r ≡ growCall (now (book .entry)) (lent (recordTerm parent term typ (given traced (now (trace .entry)))) (now (scratch .entry)) (now (out .entry))) .answer) × (now (out .exit) ≡ growCall (now (book .entry)) (lent (recordTerm parent term typ (given traced (now (trace .entry)))) (now (scratch .entry)) (now (out .entry))) .buffer) × (now (scratch .exit) ≡ growCall (now (book .entry)) (lent (recordTerm parent term typ (given traced (now (trace .entry)))) (now (scratch .entry)) (now (out .entry))) .scratch) ⌝ }
+    ensures { λ r. ⌜ Returned (growCall (now (book .entry)) (lent (recordTerm parent term typ (given traced (now (trace .entry)))) (now (scratch .entry)) (now (out .entry)))) r (now (out .exit)) (now (scratch .exit)) ⌝ }
 {
     match book_test(book, scratch) {
         Tested::Refused(why) => Appended::Refused(why),
@@ -295,7 +183,7 @@ pub fn record_trace_point<'a>(
     trace: &'a [u8],
     out: &mut [u8],
 ) -> Appended
-    ensures { λ r. ⌜ (appendedValue r ≡ growCall (now (book .entry)) (lent (recordTracePoint parent (now (trace .entry))) (now (scratch .entry)) (now (out .entry))) .answer) × (now (out .exit) ≡ growCall (now (book .entry)) (lent (recordTracePoint parent (now (trace .entry))) (now (scratch .entry)) (now (out .entry))) .buffer) × (now (scratch .exit) ≡ growCall (now (book .entry)) (lent (recordTracePoint parent (now (trace .entry))) (now (scratch .entry)) (now (out .entry))) .scratch) ⌝ }
+    ensures { λ r. ⌜ Returned (growCall (now (book .entry)) (lent (recordTracePoint parent (now (trace .entry))) (now (scratch .entry)) (now (out .entry)))) r (now (out .exit)) (now (scratch .exit)) ⌝ }
 {
     match book_test(book, scratch) {
         Tested::Refused(why) => Appended::Refused(why),

@@ -10,11 +10,11 @@ use basics::put_u64;
 use basics::sum;
 
 // Letters of the longest such name: the word, and a depth of two digits.
-const LETTERS_MOST: usize = 8;
+const PROBE_MOST: usize = 8;
 
 // The name is the first `length` letters of the text.
 pub struct ProbeName {
-    pub text: [u8; LETTERS_MOST],
+    pub text: [u8; PROBE_MOST],
     pub length: usize,
 }
 
@@ -32,7 +32,7 @@ pub fn probe_name(depth: usize) -> ProbeName
     requires { ⌜ depth ≤ depthMost ⌝ }
     ensures { λ r. ⌜ IsProbeName depth r ⌝ }
 {
-    let mut text = [0; LETTERS_MOST];
+    let mut text = [0; PROBE_MOST];
     let length = put_probe(depth, &mut text);
     ProbeName {
         text: text,

@@ -7,7 +7,7 @@ use lib.ListN.{length}
 use Rattle.basics.specs.Bytes.{bytes4, row, rows}
 use Rattle.basics.specs.Write.{MOST, WroteAt}
 use Rattle.basics.proofs.Places.{at-then, at-as, at-whole}
-use Rattle.new_records.specs.Drafts.{newTerm, termRow}
+use Rattle.new_records.specs.Drafts.{identifier, equality, termRow}
 
 pub two-fields : (a b : ℕ) {n : ℕ} {x o q : List ℕ} {r1 r : ℕ} → WroteAt (bytes4 a) n x o r1 → WroteAt (bytes4 b) r1 o q r → length x < MOST + 1 → WroteAt (row (a ∷ b ∷ [])) n x q r
 unfolding row bytes4
@@ -36,8 +36,8 @@ row7-filled a b c d e f g {x = x} w1 w2 w3 w4 w5 w6 w7 long =
 
 -- the two terms of an equality
 pub equality-filled : (v o e : ℕ) {i j x o1 q : List ℕ} {r1 r : ℕ} → i ≡ row (3 ∷ v ∷ 0 ∷ 0 ∷ 0 ∷ 0 ∷ 0 ∷ []) → j ≡ row (4 ∷ o ∷ e ∷ 2 ∷ 0 ∷ 0 ∷ 0 ∷ [])
-    → WroteAt i 0 x o1 r1 → WroteAt j r1 o1 q r → length x ≡ 56 → q ≡ rows (map termRow (newTerm 3 v 0 0 0 0 0 ∷ newTerm 4 o e 2 0 0 0 ∷ []))
-unfolding rows row bytes4 termRow
+    → WroteAt i 0 x o1 r1 → WroteAt j r1 o1 q r → length x ≡ 56 → q ≡ rows (map termRow (identifier v ∷ equality o e ∷ []))
+unfolding rows row bytes4 termRow identifier equality
 equality-filled v o e {x = x} ei ej w1 w2 long =
     let short : length x < MOST + 1 = omega arith in
     at-whole (at-then short (at-as ei w1) (at-as ej w2)) (omega arith)

@@ -40,6 +40,16 @@ newConstant n t = record { name = n; typ = t }
 abbrev pub newTerm : (kind f1 f2 f3 f4 f5 f6 : ℕ) → NewTerm
 newTerm k f1 f2 f3 f4 f5 f6 = record { kind = k; field1 = f1; field2 = f2; field3 = f3; field4 = f4; field5 = f5; field6 = f6 }
 
+-- the terms that are made here: `true`; a constant; and an operator's application to two list entries
+unfoldable pub trueTerm : NewTerm
+trueTerm = newTerm 0 1 0 0 0 0 0
+
+unfoldable pub identifier : (constant : ℕ) → NewTerm
+identifier v = newTerm 3 v 0 0 0 0 0
+
+unfoldable pub equality : (operator start : ℕ) → NewTerm
+equality operator start = newTerm 4 operator start 2 0 0 0
+
 abbrev pub newNode : (parent term trace : ℕ) → NewNode
 newNode p t n = record { parent = p; term = t; trace = n }
 

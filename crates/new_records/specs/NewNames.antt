@@ -1,5 +1,5 @@
 -- The names that a call needs and the new ones' letters and rows, as the code gives them.
-use Prim.Native.Nat.{ℕ, _+_, _≤_}
+use Prim.Native.Nat.{ℕ, suc, _+_, _≤_}
 use mathlib.Core.Path.{_≡_}
 use mathlib.Core.Option.{Option, none, some}
 use mathlib.Core.Bool.{Bool, true, false}
@@ -9,6 +9,7 @@ use Rattle.basics.specs.Bytes.{row, rows}
 use Rattle.basics.specs.Text.{Text}
 use Rattle.book.specs.Book.{Book, names, size}
 use Rattle.name_search.specs.Names.{position, numberOr}
+use Rattle.name_search.specs.Probe.{probeMost}
 use Rattle.new_records.specs.Drafts.{nameRow, nameRows, allLetters}
 use Rattle.new_records.specs.Naming.{named, equals, probeNamed, equalsNamed, traceNamed}
 use Rattle.new_records.specs.declared.naming.Numbered as named-code
@@ -74,7 +75,7 @@ pub record AreLetters (name : Text) (p e : Bool) (r : letters-code.Letters) : Ty
   pub are : take (r .length) (r .bytes) ≡ textIf p name ++ textIf e equals
   pub probe : r .probe ≡ length (textIf p name)
   pub whole : r .length ≡ length (textIf p name ++ textIf e equals)
-  pub few : r .length ≤ 9
+  pub few : r .length ≤ suc probeMost
   pub fits : r .length ≤ length (r .bytes)
 
 pub record AreParts (behind : ℕ) (probe : Text) (p e : Bool) (text : Text) (t : Bool) (r : parts-code.NameParts) : Type 0 where

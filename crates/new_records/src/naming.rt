@@ -1,13 +1,16 @@
 // The names that the four need: found or new, and the letters and rows of the new ones.
 ghost use mathlib.Core.Path.{_≡_};
 ghost use mathlib.Core.Bool.{_&&_};
-ghost use Prim.Native.Nat.{_≤_};
+ghost use Prim.Native.Nat.{_*_, _≤_};
 ghost use lib.ListN.{length};
 ghost use Rattle.basics.specs.Text.{same};
 ghost use Rattle.basics.specs.Write.{WroteAt};
+ghost use Rattle.book.specs.Book.{letters, names};
 ghost use Rattle.book_test.specs.Promise.{Promise};
+ghost use Rattle.name_search.specs.Probe.{probeMost};
 ghost use Rattle.new_records.specs.Drafts.{rangeStart};
 ghost use Rattle.new_records.specs.NewNames.{oneIf, newBefore, IsBehind, IsNamed, textIf, rowIf, lengthIf, given, AreNamed, AreLetters, AreParts};
+use super::rows::ROW2;
 use basics::put_at;
 use basics::put_word;
 use basics::same;
@@ -50,7 +53,7 @@ pub struct Letters {
 // `probe%`, two digits and `=`.
 const FRONT: usize = 9;
 
-const THREE_ROWS: usize = 24;
+const THREE_ROWS: usize = 3 * ROW2;
 
 // The operator of equality.
 pub const EQUALS: [u8; EQUALS_LENGTH] = [b'='];
@@ -75,7 +78,7 @@ fn stands(new: bool, name: &[u8], text: &[u8]) -> bool
 
 // Of a text that the book's names, so many, don't have.
 fn new_name(all: usize, text: &[u8], probe: &[u8], probe_new: bool, equals_new: bool) -> Numbered
-    requires { ⌜ all ≤ 512 ⌝ }
+    requires { ⌜ all ≤ names .most ⌝ }
     ensures { λ r. ⌜ IsBehind all (now (text .entry)) (newBefore (now (probe .entry)) «probe_new» «equals_new») r ⌝ }
 {
     if stands(probe_new, probe, text) {
@@ -122,7 +125,7 @@ pub fn range_start(behind: usize, length: usize) -> usize
 
 // Writes a text at a place, if it is new.
 fn put_text(new: bool, text: &[u8], at: usize, out: &mut [u8]) -> usize
-    requires { ⌜ at ≤ 8 ⌝ }
+    requires { ⌜ at ≤ probeMost ⌝ }
     ensures { λ r. ⌜ WroteAt (textIf new (now (text .entry))) at (now (out .entry)) (now (out .exit)) r ⌝ }
 {
     if !new {
@@ -133,7 +136,7 @@ fn put_text(new: bool, text: &[u8], at: usize, out: &mut [u8]) -> usize
 
 // Writes a name's row at a place, if it is new.
 fn put_name(new: bool, behind: usize, length: usize, at: usize, out: &mut [u8]) -> usize
-    requires { ⌜ at ≤ 16 ⌝ }
+    requires { ⌜ at ≤ 2 * names .size ⌝ }
     ensures { λ r. ⌜ WroteAt (rowIf new behind length) at (now (out .entry)) (now (out .exit)) r ⌝ }
 {
     if !new {
@@ -145,7 +148,7 @@ fn put_name(new: bool, behind: usize, length: usize, at: usize, out: &mut [u8]) 
 
 // The letters of the probe's name and `=`, as far as they are new.
 fn front_letters(probe: &[u8], probe_new: bool, equals_new: bool) -> Letters
-    requires { ⌜ length (now probe) ≤ 8 ⌝ }
+    requires { ⌜ length (now probe) ≤ probeMost ⌝ }
     ensures { λ r. ⌜ AreLetters (now (probe .entry)) «probe_new» «equals_new» r ⌝ }
 {
     let mut bytes = [0; FRONT];
@@ -174,7 +177,7 @@ pub fn name_parts(
     text: &[u8],
     text_new: bool,
 ) -> NameParts
-    requires { ⌜ (behind ≤ 8192) × (length (now probe) ≤ 8) ⌝ }
+    requires { ⌜ (behind ≤ letters .most) × (length (now probe) ≤ probeMost) ⌝ }
     ensures { λ r. ⌜ AreParts behind (now (probe .entry)) «probe_new» «equals_new» (now (text .entry)) «text_new» r ⌝ }
 {
     let front = front_letters(probe, probe_new, equals_new);

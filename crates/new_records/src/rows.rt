@@ -2,19 +2,20 @@
 ghost use mathlib.Core.Path.{_≡_};
 ghost use mathlib.Core.List.{[], _∷_, map};
 ghost use Rattle.basics.specs.Bytes.{row, rows};
-ghost use Rattle.new_records.specs.Drafts.{newTerm, termRow};
+ghost use Rattle.new_records.specs.Drafts.{identifier, equality, termRow};
 use basics::put_at;
 use basics::put_word;
 use book::format::BUILT_IN;
 use book::format::ID;
 
+// Bytes of a row of so many fields.
 pub const ROW2: usize = 8;
 
 pub const ROW3: usize = 12;
 
 pub const ROW7: usize = 28;
 
-pub const EQUALITY: usize = 56;
+pub const EQUALITY: usize = 2 * ROW7;
 
 // The arguments of an equality.
 const ARGUMENTS: usize = 2;
@@ -54,7 +55,7 @@ pub fn row7(a: usize, b: usize, c: usize, d: usize, e: usize, f: usize, g: usize
 
 // The terms of an equality: a constant, and the operator's application to two entries from a place of the lists on.
 pub fn equality(constant: usize, operator: usize, entries: usize) -> [u8; EQUALITY]
-    ensures { λ r. ⌜ r ≡ rows (map termRow (newTerm 3 constant 0 0 0 0 0 ∷ newTerm 4 operator entries 2 0 0 0 ∷ [])) ⌝ }
+    ensures { λ r. ⌜ r ≡ rows (map termRow (identifier constant ∷ equality operator entries ∷ [])) ⌝ }
 {
     let id = row7(ID, constant, 0, 0, 0, 0, 0);
     let equal = row7(BUILT_IN, operator, entries, ARGUMENTS, 0, 0, 0);

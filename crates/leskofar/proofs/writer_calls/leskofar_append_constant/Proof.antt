@@ -5,7 +5,7 @@ use Rattle.leskofar.proofs.writer_calls.leskofar_append_constant.Statem
 use Rattle.leskofar.proofs.writer_calls.leskofar_append_constant.Tie as tie
 
 returns : tie.Need-returns
-returns c = (c .answer .ensures ∙ ap appended (c .before .before .before .before .before .append-constant .ensures .0), (c .before .before .before .before .before .append-constant .ensures .1, c .before .before .before .before .before .append-constant .ensures .2))
+returns c = (c .answer .ensures ∙ ap appended (c .before .before .before .before .before .append-constant .ensures .answer), (c .before .before .before .before .before .append-constant .ensures .buffer′, c .before .before .before .before .before .append-constant .ensures .scratch′))
 
 pub leskofar-append-constant-spec : {M : Type 1} → statement M
 leskofar-append-constant-spec =

@@ -5,7 +5,7 @@ use Rattle.leskofar.proofs.writer_calls.leskofar_append_name.Statement.
 use Rattle.leskofar.proofs.writer_calls.leskofar_append_name.Tie as tie
 
 returns : tie.Need-returns
-returns c = (c .answer .ensures ∙ ap appended (c .before .before .before .before .before .append-name .ensures .0), (c .before .before .before .before .before .append-name .ensures .1, c .before .before .before .before .before .append-name .ensures .2))
+returns c = (c .answer .ensures ∙ ap appended (c .before .before .before .before .before .append-name .ensures .answer), (c .before .before .before .before .before .append-name .ensures .buffer′, c .before .before .before .before .before .append-name .ensures .scratch′))
 
 pub leskofar-append-name-spec : {M : Type 1} → statement M
 leskofar-append-name-spec =

@@ -5,7 +5,7 @@ use Rattle.leskofar.proofs.writer_calls.leskofar_append_node.Statement.
 use Rattle.leskofar.proofs.writer_calls.leskofar_append_node.Tie as tie
 
 returns : tie.Need-returns
-returns c = (c .answer .ensures ∙ ap appended (c .before .before .before .before .before .append-node .ensures .0), (c .before .before .before .before .before .append-node .ensures .1, c .before .before .before .before .before .append-node .ensures .2))
+returns c = (c .answer .ensures ∙ ap appended (c .before .before .before .before .before .append-node .ensures .answer), (c .before .before .before .before .before .append-node .ensures .buffer′, c .before .before .before .before .before .append-node .ensures .scratch′))
 
 pub leskofar-append-node-spec : {M : Type 1} → statement M
 leskofar-append-node-spec =

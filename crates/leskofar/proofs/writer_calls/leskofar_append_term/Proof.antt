@@ -5,7 +5,7 @@ use Rattle.leskofar.proofs.writer_calls.leskofar_append_term.Statement.
 use Rattle.leskofar.proofs.writer_calls.leskofar_append_term.Tie as tie
 
 returns : tie.Need-returns
-returns c = (c .answer .ensures ∙ ap appended (c .before .before .before .before .before .append-term .ensures .0), (c .before .before .before .before .before .append-term .ensures .1, c .before .before .before .before .before .append-term .ensures .2))
+returns c = (c .answer .ensures ∙ ap appended (c .before .before .before .before .before .append-term .ensures .answer), (c .before .before .before .before .before .append-term .ensures .buffer′, c .before .before .before .before .before .append-term .ensures .scratch′))
 
 pub leskofar-append-term-spec : {M : Type 1} → statement M
 leskofar-append-term-spec =

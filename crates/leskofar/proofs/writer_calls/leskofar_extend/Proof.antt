@@ -5,7 +5,7 @@ use Rattle.leskofar.proofs.writer_calls.leskofar_extend.Statement.{stat
 use Rattle.leskofar.proofs.writer_calls.leskofar_extend.Tie as tie
 
 returns : tie.Need-returns
-returns c = (c .answer .ensures ∙ ap appended (c .before .before .before .before .before .extend .ensures .0), (c .before .before .before .before .before .extend .ensures .1, c .before .before .before .before .before .extend .ensures .2))
+returns c = (c .answer .ensures ∙ ap appended (c .before .before .before .before .before .extend .ensures .answer), (c .before .before .before .before .before .extend .ensures .buffer′, c .before .before .before .before .before .extend .ensures .scratch′))
 
 pub leskofar-extend-spec : {M : Type 1} → statement M
 leskofar-extend-spec =

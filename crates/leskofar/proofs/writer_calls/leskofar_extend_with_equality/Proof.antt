@@ -5,7 +5,7 @@ use Rattle.leskofar.proofs.writer_calls.leskofar_extend_with_equality.S
 use Rattle.leskofar.proofs.writer_calls.leskofar_extend_with_equality.Tie as tie
 
 returns : tie.Need-returns
-returns c = (c .answer .ensures ∙ ap appended (c .before .before .before .before .before .extend-with-equality .ensures .0), (c .before .before .before .before .before .extend-with-equality .ensures .1, c .before .before .before .before .before .extend-with-equality .ensures .2))
+returns c = (c .answer .ensures ∙ ap appended (c .before .before .before .before .before .extend-with-equality .ensures .answer), (c .before .before .before .before .before .extend-with-equality .ensures .buffer′, c .before .before .before .before .before .extend-with-equality .ensures .scratch′))
 
 pub leskofar-extend-with-equality-spec : {M : Type 1} → statement M
 leskofar-extend-with-equality-spec =

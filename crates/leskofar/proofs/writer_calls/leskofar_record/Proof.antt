@@ -5,7 +5,7 @@ use Rattle.leskofar.proofs.writer_calls.leskofar_record.Statement.{stat
 use Rattle.leskofar.proofs.writer_calls.leskofar_record.Tie as tie
 
 returns : tie.Need-returns
-returns c = (c .answer .ensures ∙ ap appended (c .before .before .before .before .before .«record» .ensures .0), (c .before .before .before .before .before .«record» .ensures .1, c .before .before .before .before .before .«record» .ensures .2))
+returns c = (c .answer .ensures ∙ ap appended (c .before .before .before .before .before .«record» .ensures .answer), (c .before .before .before .before .before .«record» .ensures .buffer′, c .before .before .before .before .before .«record» .ensures .scratch′))
 
 pub leskofar-record-spec : {M : Type 1} → statement M
 leskofar-record-spec =

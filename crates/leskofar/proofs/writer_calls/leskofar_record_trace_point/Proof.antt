@@ -5,7 +5,7 @@ use Rattle.leskofar.proofs.writer_calls.leskofar_record_trace_point.Sta
 use Rattle.leskofar.proofs.writer_calls.leskofar_record_trace_point.Tie as tie
 
 returns : tie.Need-returns
-returns c = (c .answer .ensures ∙ ap appended (c .before .before .before .before .before .record-trace-point .ensures .0), (c .before .before .before .before .before .record-trace-point .ensures .1, c .before .before .before .before .before .record-trace-point .ensures .2))
+returns c = (c .answer .ensures ∙ ap appended (c .before .before .before .before .before .record-trace-point .ensures .answer), (c .before .before .before .before .before .record-trace-point .ensures .buffer′, c .before .before .before .before .before .record-trace-point .ensures .scratch′))
 
 pub leskofar-record-trace-point-spec : {M : Type 1} → statement M
 leskofar-record-trace-point-spec =

@@ -1,7 +1,7 @@
 use Rattle.book_writer.proofs.Fields.{first-wrong, second-decides}
 use borrow.Author.Needs.{needs}
-use Rattle.book_writer.proofs.records.term_right.Statement.{statement}
-use Rattle.book_writer.proofs.records.term_right.Tie as tie
+use Rattle.book_writer.proofs.terms.term_right.Statement.{statement}
+use Rattle.book_writer.proofs.terms.term_right.Tie as tie
 
 returns : tie.Need-returns
 returns c = first-wrong _ _ _ _ (c .before .range-right .ensures) (c .if1 .taken)

@@ -1,7 +1,7 @@
 use Rattle.book_writer.proofs.Fields.{true-none, true-some}
 use borrow.Author.Needs.{needs}
-use Rattle.book_writer.proofs.probing.put_true.Statement.{statement}
-use Rattle.book_writer.proofs.probing.put_true.Tie as tie
+use Rattle.book_writer.proofs.probe_rows.put_true.Statement.{statement}
+use Rattle.book_writer.proofs.probe_rows.put_true.Tie as tie
 
 returns : tie.Need-returns
 returns c = true-none _ _ (c .if1 .taken)

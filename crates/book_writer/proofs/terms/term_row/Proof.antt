@@ -1,8 +1,8 @@
 use Rattle.new_records.specs.Drafts.{termRow}
 use Rattle.book_writer.proofs.Fields.{row-none, row-one, row-two}
 use borrow.Author.Needs.{needs}
-use Rattle.book_writer.proofs.records.term_row.Statement.{statement}
-use Rattle.book_writer.proofs.records.term_row.Tie as tie
+use Rattle.book_writer.proofs.terms.term_row.Statement.{statement}
+use Rattle.book_writer.proofs.terms.term_row.Tie as tie
 
 returns : tie.Need-returns
 unfolding termRow

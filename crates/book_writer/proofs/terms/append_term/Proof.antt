@@ -1,7 +1,7 @@
 use Rattle.book_writer.proofs.Calls.{ready-for, call-refused, call-good}
 use borrow.Author.Needs.{needs}
-use Rattle.book_writer.proofs.records.append_term.Statement.{statement}
-use Rattle.book_writer.proofs.records.append_term.Tie as tie
+use Rattle.book_writer.proofs.terms.append_term.Statement.{statement}
+use Rattle.book_writer.proofs.terms.append_term.Tie as tie
 
 append-term-in-requires : tie.Need-append-term-in-requires
 append-term-in-requires c κs = ready-for _ _ _ (c .before .before .before .before .before .before .book-test .ensures) (c .before .before .enum-told .given .1)

@@ -1,7 +1,7 @@
 use Rattle.book_writer.proofs.Fields.{listed-none, listed-some}
 use borrow.Author.Needs.{needs}
-use Rattle.book_writer.proofs.records.listed.Statement.{statement}
-use Rattle.book_writer.proofs.records.listed.Tie as tie
+use Rattle.book_writer.proofs.terms.listed.Statement.{statement}
+use Rattle.book_writer.proofs.terms.listed.Tie as tie
 
 returns : tie.Need-returns
 returns c = listed-none _ _ (c .if1 .taken)

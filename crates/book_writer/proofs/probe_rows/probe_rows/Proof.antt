@@ -1,7 +1,7 @@
 use Rattle.book_writer.proofs.Fields.{rows-done}
 use borrow.Author.Needs.{needs}
-use Rattle.book_writer.proofs.probing.probe_rows.Statement.{statement}
-use Rattle.book_writer.proofs.probing.probe_rows.Tie as tie
+use Rattle.book_writer.proofs.probe_rows.probe_rows.Statement.{statement}
+use Rattle.book_writer.proofs.probe_rows.probe_rows.Tie as tie
 
 returns : tie.Need-returns
 returns c = rows-done _ _ _ _ _ _ _ (c .before .before .before .before .before .row2 .ensures) (c .before .before .before .before .point-terms .ensures) (c .before .before .point-equality .ensures .is) (c .before .row3 .ensures) (c .point-entries .ensures)

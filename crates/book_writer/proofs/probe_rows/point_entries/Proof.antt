@@ -1,7 +1,7 @@
 use Rattle.book_writer.proofs.Fields.{entries-point, entries-term}
 use borrow.Author.Needs.{needs}
-use Rattle.book_writer.proofs.probing.point_entries.Statement.{statement}
-use Rattle.book_writer.proofs.probing.point_entries.Tie as tie
+use Rattle.book_writer.proofs.probe_rows.point_entries.Statement.{statement}
+use Rattle.book_writer.proofs.probe_rows.point_entries.Tie as tie
 
 returns : tie.Need-returns
 returns c = entries-point _ _ _ (c .before .before .count .ensures .is) (c .before .if1 .taken) (c .row2 .ensures)

@@ -1,8 +1,8 @@
 use native.Mathlib.Omega.{arith}
 use Rattle.book_writer.proofs.Fields.{equality-point, equality-term}
 use borrow.Author.Needs.{needs}
-use Rattle.book_writer.proofs.probing.point_equality.Statement.{statement}
-use Rattle.book_writer.proofs.probing.point_equality.Tie as tie
+use Rattle.book_writer.proofs.probe_rows.point_equality.Statement.{statement}
+use Rattle.book_writer.proofs.probe_rows.point_equality.Tie as tie
 
 returns : tie.Need-returns
 returns c = record { is = equality-point _ _ _ (c .before .count .ensures .is) (c .if1 .taken); low = omega (arith, c .before .count .ensures .is, c .before .before .before .pre .terms-laid .few) }

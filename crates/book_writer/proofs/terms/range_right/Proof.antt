@@ -1,7 +1,7 @@
 use Rattle.book_writer.proofs.Fields.{right-none, right-start, right-count, right-whole}
 use borrow.Author.Needs.{needs}
-use Rattle.book_writer.proofs.records.range_right.Statement.{statement}
-use Rattle.book_writer.proofs.records.range_right.Tie as tie
+use Rattle.book_writer.proofs.terms.range_right.Statement.{statement}
+use Rattle.book_writer.proofs.terms.range_right.Tie as tie
 
 returns : tie.Need-returns
 returns c = right-none _ _ _ _ (c .if1 .taken)

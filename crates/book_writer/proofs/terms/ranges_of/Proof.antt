@@ -1,8 +1,8 @@
 use Rattle.book_writer.specs.Growths.{rangesOf}
 use Rattle.book_writer.proofs.Fields.{ranges-other}
 use borrow.Author.Needs.{needs}
-use Rattle.book_writer.proofs.records.ranges_of.Statement.{statement}
-use Rattle.book_writer.proofs.records.ranges_of.Tie as tie
+use Rattle.book_writer.proofs.terms.ranges_of.Statement.{statement}
+use Rattle.book_writer.proofs.terms.ranges_of.Tie as tie
 
 returns : tie.Need-returns
 unfolding rangesOf

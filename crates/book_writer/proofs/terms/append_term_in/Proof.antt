@@ -9,8 +9,8 @@ use Rattle.book_writer.proofs.Additions.{whole-as, append-as, right-as,
 use Rattle.book_writer.specs.Growths.{appendTerm}
 use Rattle.book_writer.specs.Coded.{fieldsOf}
 use borrow.Author.Needs.{needs}
-use Rattle.book_writer.proofs.records.append_term_in.Statement.{statement}
-use Rattle.book_writer.proofs.records.append_term_in.Tie as tie
+use Rattle.book_writer.proofs.terms.append_term_in.Statement.{statement}
+use Rattle.book_writer.proofs.terms.append_term_in.Tie as tie
 
 term-row-requires : tie.Need-term-row-requires
 term-row-requires c κs = (omega (arith, c .count .ensures .is, c .before .before .before .before .before .before .before .before .pre .promise .lists-laid .few), omega (arith, c .before .before .before .before .before .before .before .before .good))
