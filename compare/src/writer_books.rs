@@ -2,7 +2,8 @@
 //! filled up to a count of one section.
 
 use crate::session_books::session_book;
-use leskofar_reference::book::{kind, Section, INT, NO_TERM};
+use leskofar_reference::book::Section;
+use leskofar_reference::filled_books::filled_up;
 use leskofar_reference::maker::Maker;
 use leskofar_reference::random::{Random, HARDLY_EVER, OFTEN};
 use leskofar_reference::random_books::{random_book, Counts};
@@ -14,39 +15,6 @@ const LARGE: usize = 60;
 /// is less than so many.
 const FREE: usize = 4;
 const LACKING: usize = 4;
-
-/// A name `n`, a constant `c`, two terms that nothing refers to.
-pub fn tiny() -> Maker {
-    let mut m = Maker::default();
-    m.name("n");
-    m.constant("c", INT);
-    m.boolean(true);
-    m.boolean(false);
-    m
-}
-
-/// The book with so many records of a section, the new ones harmless. It has
-/// a name.
-pub fn filled_up(mut m: Maker, section: Section, count: usize) -> Maker {
-    match section {
-        Section::Letters => m.letters.resize(count, b'x'),
-        Section::Names => m.names.resize(count, [0, 0]),
-        Section::Types => m.types.resize(count, [0]),
-        Section::Constants => m.constants.resize(count, [0, INT]),
-        Section::Functions => m.functions.resize(count, [0, INT, 0, 0, 0, 0]),
-        Section::Axioms => m.axioms.resize(count, [NO_TERM, 0, 0]),
-        Section::Patterns => m.patterns.resize(count, [0, 0]),
-        Section::Terms => m.terms.resize(count, [kind::BOOLEAN, 1, 0, 0, 0, 0, 0]),
-        Section::Contexts => {
-            while m.contexts.len() < count {
-                let term = m.boolean(true);
-                m.context(0, term);
-            }
-        }
-        Section::Lists => m.lists.resize(count, 0),
-    }
-    m
-}
 
 /// A random good book, with some terms that nothing refers to, at times
 /// full or nearly so in one section.

@@ -4,10 +4,10 @@
 use crate::made_growths::{each_call, extend, name, record, term, trace_point};
 use crate::tally::{Met, Tally};
 use crate::writer::compare_in_every_room;
-use crate::writer_books::{filled_up, tiny};
 use crate::writer_call::Growth;
 use crate::writer_edges::{expect, same};
 use leskofar_reference::book::{kind, Section, INT, NUMBER_SIZE};
+use leskofar_reference::filled_books::{filled_up, tiny};
 use leskofar_reference::maker::Maker;
 use leskofar_reference::refusal::{COUNT, FIELD, FOREST};
 

@@ -3,11 +3,11 @@
 
 use crate::made_growths::{extend, name, record, trace_point};
 use crate::tally::{Met, Tally};
-use crate::writer_books::tiny;
 use crate::writer_call::Growth;
 use crate::writer_edges::{expect, same};
 use leskofar_reference::book::INT;
 use leskofar_reference::book_test::{FIRST_LETTER, LAST_LETTER};
+use leskofar_reference::filled_books::tiny;
 use leskofar_reference::refusal::FIELD;
 
 /// The calls that take a trace, in the tiny book.

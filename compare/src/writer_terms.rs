@@ -4,10 +4,10 @@
 use crate::made_growths::term;
 use crate::tally::{Met, Tally};
 use crate::writer::compare_in_every_room;
-use crate::writer_books::tiny;
 use crate::writer_call::Growth;
 use crate::writer_edges::expect;
 use leskofar_reference::book::{kind, TERM_FIELDS};
+use leskofar_reference::filled_books::tiny;
 use leskofar_reference::refusal::{FIELD, FOREST};
 
 const NO_LISTS: [&[u32]; 2] = [&[], &[]];

@@ -9,6 +9,7 @@ pub mod chains;
 pub mod commands;
 pub mod damage;
 pub mod engine;
+pub mod filled_books;
 pub mod image;
 pub mod levels;
 pub mod listing;

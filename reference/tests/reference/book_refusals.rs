@@ -2,10 +2,11 @@
 
 use crate::desk::buffer;
 use leskofar_reference::book::{
-    contents_place, kind, Section, BOOL, CONTENTS_SIZE, INT, NO_TERM, NUMBER_SIZE,
+    contents_place, kind, Section, BOOL, CONTENTS_SIZE, INT, NUMBER_SIZE,
 };
 use leskofar_reference::book_test;
 use leskofar_reference::book_test::{MOST_DEPTH, SCRATCH_SIZE};
+use leskofar_reference::filled_books::filled_up;
 use leskofar_reference::maker::{sample, Maker};
 use leskofar_reference::refusal::{CONTENTS, COUNT, DEPTH, FIELD, FOREST, SCRATCH_SHORT};
 
@@ -138,25 +139,7 @@ fn two_is_for_a_table_that_closes_modulo_two_to_the_32() {
 fn filled(section: Section, extra: usize) -> Maker {
     let mut m = Maker::default();
     m.name("n");
-    let count = section.most() + extra;
-    match section {
-        Section::Letters => m.letters.resize(count, b'a'),
-        Section::Names => m.names.resize(count, [0, 1]),
-        Section::Types => m.types.resize(count, [0]),
-        Section::Constants => m.constants.resize(count, [0, INT]),
-        Section::Functions => m.functions.resize(count, [0, INT, 0, 0, 0, 0]),
-        Section::Axioms => m.axioms.resize(count, [NO_TERM, 0, 0]),
-        Section::Patterns => m.patterns.resize(count, [0, 0]),
-        Section::Terms => m.terms.resize(count, [kind::BOOLEAN, 1, 0, 0, 0, 0, 0]),
-        Section::Contexts => {
-            for _ in 0..count {
-                let term = m.boolean(true);
-                m.context(0, term);
-            }
-        }
-        Section::Lists => m.lists.resize(count, 0),
-    }
-    m
+    filled_up(m, section, section.most() + extra)
 }
 
 #[test]

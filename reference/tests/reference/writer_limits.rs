@@ -1,8 +1,9 @@
 //! Growths of books that are nearly full.
 
 use crate::writer_desk::{grown, refusal, Growth};
-use crate::writer_refusals::{each_call, tiny, TRUE};
-use leskofar_reference::book::{Section, INT, NO_TERM};
+use crate::writer_refusals::each_call;
+use leskofar_reference::book::Section;
+use leskofar_reference::filled_books::{filled_up, tiny};
 use leskofar_reference::maker::Maker;
 use leskofar_reference::refusal::COUNT;
 
@@ -61,7 +62,7 @@ fn every_section_at_its_limit_by_each_call() {
                 .into_iter()
                 .find_map(|(taken, many)| (taken == section).then_some(many))
                 .unwrap_or(0);
-            let book = |count: usize| filled(section, count).book();
+            let book = |count: usize| filled_up(tiny(), section, count).book();
             let fits = book(section.most() - taken);
             assert!(grown(&fits, &growth).is_ok(), "{growth:?} {section:?}");
             if taken > 0 {
@@ -70,27 +71,4 @@ fn every_section_at_its_limit_by_each_call() {
             }
         }
     }
-}
-
-/// A book with so many records of a section, with a term 0 that is free.
-fn filled(section: Section, count: usize) -> Maker {
-    let mut m = tiny();
-    match section {
-        Section::Letters => m.letters.resize(count, b'x'),
-        Section::Names => m.names.resize(count, [0, 1]),
-        Section::Types => m.types.resize(count, [0]),
-        Section::Constants => m.constants.resize(count, [0, INT]),
-        Section::Functions => m.functions.resize(count, [0, INT, 0, 0, 0, 0]),
-        Section::Axioms => m.axioms.resize(count, [NO_TERM, 0, 0]),
-        Section::Patterns => m.patterns.resize(count, [0, 0]),
-        Section::Terms => m.terms.resize(count, TRUE),
-        Section::Contexts => {
-            for _ in 0..count {
-                let term = m.boolean(true);
-                m.context(0, term);
-            }
-        }
-        Section::Lists => m.lists.resize(count, 0),
-    }
-    m
 }

@@ -1,8 +1,9 @@
 //! The lists of a new term: how they are handed over, and how long they are.
 
 use crate::writer_desk::{grown, refusal, Growth};
-use crate::writer_refusals::{tiny, TRUE};
+use crate::writer_refusals::TRUE;
 use leskofar_reference::book::{kind, Section};
+use leskofar_reference::filled_books::tiny;
 use leskofar_reference::refusal::{COUNT, FIELD, FOREST};
 
 #[test]

@@ -5,6 +5,7 @@ use crate::desk::buffer;
 use crate::writer_desk::{grown, refusal, Growth};
 use leskofar_reference::book::{kind, Section, BOOL, INT};
 use leskofar_reference::book_test::{FIRST_LETTER, LAST_LETTER, MOST_DEPTH, SCRATCH_SIZE};
+use leskofar_reference::filled_books::tiny;
 use leskofar_reference::maker::Maker;
 use leskofar_reference::refusal::{
     COUNT, DEPTH, FIELD, FOREST, NOT_IN_BOOK, SCRATCH_SHORT, TOO_LONG,
@@ -25,16 +26,6 @@ pub fn each_call() -> [Growth; 8] {
         Growth::record(0, 0, INT, Some("t")),
         Growth::trace_point(0, "t"),
     ]
-}
-
-/// Names `n` and `c`, a constant and two terms.
-pub fn tiny() -> Maker {
-    let mut m = Maker::default();
-    m.name("n");
-    m.constant("c", INT);
-    m.boolean(true);
-    m.boolean(false);
-    m
 }
 
 #[test]
