@@ -31,12 +31,16 @@ row-stands (x ∷ xs) (suc i) h =
     let e : length (bytes4 x) + 4 * i ≡ 4 * suc i = omega (arith, length-bytes4 x) in
     rw e at (stands-right (row-stands xs i (omega arith)) (bytes4 x))
 
-pub word-row : {xs : List ℕ} → Words xs → (i : ℕ) → i < length xs → word (row xs) (4 * i) ≡ getD xs i 0
-word-row {xs} w i h =
+-- number i of a row, if it has 32 bits
+pub word-at : (xs : List ℕ) (i : ℕ) → i < length xs → getD xs i 0 < 2 ^ 32 → word (row xs) (4 * i) ≡ getD xs i 0
+word-at xs i h low =
     let x = getD xs i 0 in
     let here : word (row xs) (4 * i + 0) ≡ word (bytes4 x) 0 = stands-word (row-stands xs i h) 0 (omega (arith, length-bytes4 x)) in
     let e : 4 * i + 0 ≡ 4 * i = omega arith in
-    (rw e at here) ∙ word-bytes4 x (all-at w i 0 h)
+    (rw e at here) ∙ word-bytes4 x low
+
+pub word-row : {xs : List ℕ} → Words xs → (i : ℕ) → i < length xs → word (row xs) (4 * i) ≡ getD xs i 0
+word-row {xs} w i h = word-at xs i h (all-at w i 0 h)
 
 -- a body of lists
 pub entries-row : {xs : List ℕ} → Words xs → (start count : ℕ) → start + count ≤ length xs → entriesIn (row xs) start count ≡ take count (drop start xs)
@@ -64,15 +68,22 @@ rows-stand width (more {a = r} {l = rs} w ws) (suc k) h =
     rw e at (stands-right (rows-stand width ws k (omega arith)) (row r))
 
 -- field i of record k, where record k's row stands
-field-row : (bytes : List ℕ) (s : Section) {r : List ℕ} (k i : ℕ) → Stands bytes (s .size * k) (row r) → Words r → i < length r → fieldIn bytes s k i ≡ getD r i 0
+field-row : (bytes : List ℕ) (s : Section) (r : List ℕ) (k i : ℕ) → Stands bytes (s .size * k) (row r) → i < length r → getD r i 0 < 2 ^ 32 → fieldIn bytes s k i ≡ getD r i 0
 unfolding fieldIn
-field-row bytes s {r} k i stands w h = stands-word stands (4 * i) (omega (arith, length-row r)) ∙ word-row w i h
+field-row bytes s r k i stands h low = stands-word stands (4 * i) (omega (arith, length-row r)) ∙ word-at r i h low
+
+-- a field of 32 bits, whatever the others are
+pub field-at : (s : Section) (width : ℕ) → s .size ≡ 4 * width → {rs : List (List ℕ)} → All (λ (r : List ℕ). length r ≡ width) rs → (k i : ℕ) → k < length rs → i < width
+    → getD (getD rs k []) i 0 < 2 ^ 32 → fieldIn (rows rs) s k i ≡ getD (getD rs k []) i 0
+field-at s width e {rs} wide k i h l low =
+    let w : length (getD rs k []) ≡ width = all-at wide k [] h in
+    let q : 4 * width * k ≡ s .size * k = rw e in
+    field-row (rows rs) s (getD rs k []) k i (rw q at (rows-stand width wide k h)) (omega arith) low
 
 pub field-rows : (s : Section) (width : ℕ) → s .size ≡ 4 * width → {rs : List (List ℕ)} → Records width rs → (k i : ℕ) → k < length rs → i < width → fieldIn (rows rs) s k i ≡ getD (getD rs k []) i 0
 field-rows s width e {rs} R k i h l =
     let w : length (getD rs k []) ≡ width = all-at (R .wide) k [] h in
-    let q : 4 * width * k ≡ s .size * k = rw e in
-    field-row (rows rs) s k i (rw q at (rows-stand width (R .wide) k h)) (all-at (R .words) k [] h) (omega arith)
+    field-at s width e (R .wide) k i h l (all-at (all-at (R .words) k [] h) i 0 (omega arith))
 
 -- a body of records, from a function of their numbers
 module _ (width : ℕ) (r : ℕ → List ℕ) (wide : (k : ℕ) → length (r k) ≡ width) where
@@ -85,4 +96,4 @@ module _ (width : ℕ) (r : ℕ → List ℕ) (wide : (k : ℕ) → length (r k)
   pub field-records : (s : Section) → s .size ≡ 4 * width → (n k i : ℕ) → k < n → i < width → Words (r k) → fieldIn (joinBelow n (λ j. row (r j))) s k i ≡ getD (r k) i 0
   field-records s e n k i h l w =
       let q : length (joinBelow k (λ j. row (r j))) ≡ s .size * k = length-records k ∙ rw e in
-      field-row (joinBelow n (λ j. row (r j))) s k i (rw q at (stands-join n (λ j. row (r j)) k h)) w (omega (arith, wide k))
+      field-row (joinBelow n (λ j. row (r j))) s (r k) k i (rw q at (stands-join n (λ j. row (r j)) k h)) (omega (arith, wide k)) (all-at w i 0 (omega (arith, wide k)))

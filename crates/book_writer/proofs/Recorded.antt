@@ -15,11 +15,11 @@ use Rattle.book_growth.proofs.Added.{whole-by}
 use Rattle.new_records.specs.Drafts.{Draft, nameRow, nameRows, constantRow, termRow, nodeRow, additionFrom}
 use Rattle.book_writer.specs.Growths.{Growth, appendName, appendConstant, appendTerm, appendNode, extend, extendWithEquality, recordTerm, recordTracePoint, entryCount, wholeEntries, rangesOf, termLists, extendDraft, equalityDraft, probeLists, probeDraftBy, probeDraft, draftOf, additionOf}
 
-every-row : {A : Type 0} (width : ℕ) (f : A → List ℕ) → ((x : A) → length (f x) ≡ width) → (xs : List A) → All (λ (r : List ℕ). length r ≡ width) (map f xs)
+pub every-row : {A : Type 0} (width : ℕ) (f : A → List ℕ) → ((x : A) → length (f x) ≡ width) → (xs : List A) → All (λ (r : List ℕ). length r ≡ width) (map f xs)
 every-row width f h [] = end
 every-row width f h (x ∷ xs) = more (h x) (every-row width f h xs)
 
-every-name : (behind : ℕ) (ts : List Text) → All (λ (r : List ℕ). length r ≡ 2) (nameRows behind ts)
+pub every-name : (behind : ℕ) (ts : List Text) → All (λ (r : List ℕ). length r ≡ 2) (nameRows behind ts)
 unfolding nameRows nameRow
 every-name behind [] = end
 every-name behind (t ∷ ts) = more refl (every-name (behind + length t) ts)
@@ -35,7 +35,7 @@ draft-whole b d l h =
 abbrev Fours : List ℕ → Type 0
 Fours xs = (l : ℕ) × (length xs ≡ 4 * l)
 
-whole-fours : (xs : List ℕ) → length (wholeEntries xs) ≡ 4 * entryCount xs
+pub whole-fours : (xs : List ℕ) → length (wholeEntries xs) ≡ 4 * entryCount xs
 unfolding wholeEntries entryCount
 whole-fours xs = length-take (4 * (length xs / 4)) xs ∙ omega arith
 

@@ -2,7 +2,7 @@
 use Prim.Native.Nat.{ℕ, _≤_}
 use native.Mathlib.Omega.{arith}
 use mathlib.Core.Path.{_≡_, refl, ap, subst}
-use mathlib.Core.Bool.{true, not}
+use mathlib.Core.Bool.{true, false, not}
 use lib.Dec.{ltb}
 use lib.ListN.{length}
 use borrow.Author.Tests.{ltb-false, not-false}
@@ -16,7 +16,7 @@ use Rattle.book_growth.specs.Growth.{Addition, grown, growsWithin, Whole, Kept}
 use Rattle.book_growth.specs.Grows.{Grows}
 use Rattle.book_growth.proofs.Grown.{grown-kept}
 use Rattle.book_growth.proofs.GrownProgram.{grown-term, grown-program}
-use Rattle.book_writer.specs.Growths.{Growth, additionOf, outside, handedRight}
+use Rattle.book_writer.specs.Growths.{Growth, additionOf, numberOf, outside, handedRight}
 use Rattle.book_writer.specs.Writing.{Grown, grow, OldKept, Lent, numbers, bookOf, grownLeft, outcomeOf, growCall, newest, write, tookBy, took}
 use Rattle.book_writer.proofs.Recorded.{addition-whole}
 
@@ -33,15 +33,19 @@ passed-all (accepted tt) rest e = (refl, e)
 accepted-is : {A : Type 0} {x y : A} → accepted x ≡ accepted y → x ≡ y
 accepted-is e = cc
 
--- what an accepted call tells
-record Passed (b : Book) (room : ℕ) (x : Grown) : Type 0 where
-  grows : Grows b (x .book)
-  records : Kept b (x .book)
-  fits : length (x .book) ≤ room
+-- what the steps of an accepted call tell
+pub record Told (b : Book) (g : Growth) (room : ℕ) (x : Grown) : Type 0 where
+  pub before : bookTest b ≡ accepted tt
+  pub inside : outside b g ≡ false
+  pub within : growsWithin b (additionOf b g) ≡ true
+  pub after : bookTest (grown b (additionOf b g)) ≡ accepted tt
+  pub fits : length (grown b (additionOf b g)) ≤ room
+  pub number : numberOf b g ≡ x .number
+  pub book : grown b (additionOf b g) ≡ x .book
 
-grow-passed : (scratch : ℕ) (b : Book) (g : Growth) (room : ℕ) (x : Grown) → grow scratch b g room ≡ accepted x → Passed b room x
+pub grow-told : (scratch : ℕ) (b : Book) (g : Growth) (room : ℕ) (x : Grown) → grow scratch b g room ≡ accepted x → Told b g room x
 unfolding grow
-grow-passed scratch b g room x e =
+grow-told scratch b g room x e =
     let a = additionOf b g in
     let c = grown b a in
     let r1 = passed-all (ready scratch b) _ e in
@@ -50,12 +54,29 @@ grow-passed scratch b g room x e =
     let r4 = passed 4 (not (handedRight g)) _ (r3 .1) in
     let r6 = passed-all (bookTest c) _ (r4 .1) in
     let r10 = passed 10 (ltb room (length c)) _ (r6 .1) in
-    let is : c ≡ x .book = ap (λ (z : Grown). z .book) (accepted-is (r10 .1)) in
-    let ok = ready-passed scratch b (r1 .0) .1 in
-    let within = not-false (growsWithin b a) (r3 .0) in
-    let h : Grows b c = grown-grows b a ok (addition-whole b g) within (r6 .0) in
-    let k : Kept b c = grown-kept b a (test-passed b ok .laid) (addition-whole b g) within in
-    record { grows = subst (Grows b) is h; records = subst (Kept b) is k; fits = subst (λ (d : Book). length d ≤ room) is (ltb-false room (length c) (r10 .0)) }
+    record {
+      before = ready-passed scratch b (r1 .0) .1;
+      inside = r7 .0;
+      within = not-false (growsWithin b a) (r3 .0);
+      after = r6 .0;
+      fits = ltb-false room (length c) (r10 .0);
+      number = ap (λ (z : Grown). z .number) (accepted-is (r10 .1));
+      book = ap (λ (z : Grown). z .book) (accepted-is (r10 .1));
+    }
+
+-- what an accepted call keeps
+record Passed (b : Book) (room : ℕ) (x : Grown) : Type 0 where
+  grows : Grows b (x .book)
+  records : Kept b (x .book)
+  fits : length (x .book) ≤ room
+
+grow-passed : (scratch : ℕ) (b : Book) (g : Growth) (room : ℕ) (x : Grown) → grow scratch b g room ≡ accepted x → Passed b room x
+grow-passed scratch b g room x e =
+    let a = additionOf b g in
+    let T = grow-told scratch b g room x e in
+    let h : Grows b (grown b a) = grown-grows b a (T .before) (addition-whole b g) (T .within) (T .after) in
+    let k : Kept b (grown b a) = grown-kept b a (test-passed b (T .before) .laid) (addition-whole b g) (T .within) in
+    record { grows = subst (Grows b) (T .book) h; records = subst (Kept b) (T .book) k; fits = subst (λ (d : Book). length d ≤ room) (T .book) (T .fits) }
 
 -- every old record stands in the new book under its number, every old term is what it was, and the program extends
 pub grow-kept : (scratch : ℕ) (b : Book) (g : Growth) (room : ℕ) (x : Grown) → grow scratch b g room ≡ accepted x → OldKept b (x .book)

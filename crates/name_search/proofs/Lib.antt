@@ -1,3 +1,3 @@
-mod Position
+pub mod Position
 pub mod Searching
 mod Probing
