@@ -2,7 +2,7 @@
 use Prim.Native.Nat.{ℕ, zero, suc, _<_}
 use native.Mathlib.Omega.{arith}
 use native.Mathlib.Decide.{decLt}
-use mathlib.Core.Path.{_≡_}
+use mathlib.Core.Path.{_≡_, refl}
 use mathlib.Core.Bool.{Bool, true}
 use mathlib.Core.List.{List, [], _∷_, _++_, map}
 use lib.ListN.{length, getD}
@@ -54,3 +54,8 @@ pub all-true : {A : Type 0} (xs : List A) (test : A → Bool) → all xs test �
 unfolding all
 all-true [] test h = end
 all-true (x ∷ xs) test h = let r = and-both (test x) (all xs test) h in more (r .0) (all-true xs test (r .1))
+
+-- functions that agree on a list's elements
+pub map-agree : {A B : Type 0} (Q : A → Type 0) (f g : A → B) → ((x : A) → Q x → f x ≡ g x) → {xs : List A} → All Q xs → map f xs ≡ map g xs
+map-agree Q f g h end = refl
+map-agree Q f g h (more {a = x} q qs) = rw (h x q, map-agree Q f g h qs)

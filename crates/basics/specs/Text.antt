@@ -5,6 +5,7 @@ use Prim.Native.String.{String}
 use Prim.Native.String
 use mathlib.Core.List.{List, [], _∷_}
 use mathlib.Core.Bool.{Bool, true, false, _&&_}
+use mathlib.Core.Option.{Option, none, some}
 use lib.Dec.{eqb}
 
 abbrev pub Text : Type 0
@@ -33,3 +34,8 @@ infixr 20 if_then_else_
 abbrev pub if_then_else_ {ℓ} : {A : Type ℓ} → Bool → A → A → A
 if true then a else b = a
 if false then a else b = b
+
+-- a text under a flag that says whether it came
+unfoldable pub given : Bool → Text → Option Text
+given false t = none
+given true t = some t

@@ -1,18 +1,14 @@
--- A program that goes on behind another: the nodes, paths and depths of the first are the same.
+-- A program that goes on behind another: the nodes and paths of the first are the same.
 use Prim.Native.Nat.{ℕ, zero, suc, _-_, _≤_, _<_}
 use native.Mathlib.Omega.{arith}
-use mathlib.Core.Path.{_≡_, refl, ap}
-use mathlib.Core.Option.{none}
-use lib.ListN.{length, getD, List·getD-append}
-use Rattle.book.specs.Program.{Program, axiomAt, nodeAt, pathUp, path, depth}
+use mathlib.Core.Path.{_≡_, refl}
+use lib.ListN.{length, List·getD-append}
+use Rattle.book.specs.Program.{Program, axiomAt, nodeAt, pathUp, path}
 use Rattle.book.specs.Extends.{Extends}
 
 module _ (p q : Program) (E : Extends p q) where
   pub axiomAt-kept : (k : ℕ) → axiomAt q k ≡ axiomAt p k
   axiomAt-kept k = rw (E .same-axioms)
-
-  pub literal-at-kept : (t : ℕ) → t < length (p .literals) → getD (q .literals) t none ≡ getD (p .literals) t none
-  literal-at-kept t h = rw (E .more-literals) (List·getD-append (p .literals) (E .new-literals) none t h)
 
   pub nodeAt-kept : (n : ℕ) → n < length (p .contexts) → nodeAt q (suc n) ≡ nodeAt p (suc n)
   unfolding nodeAt
@@ -29,7 +25,3 @@ module _ (p q : Program) (E : Extends p q) where
     pub path-kept : (node : ℕ) → node ≤ length (p .contexts) → path q node ≡ path p node
     unfolding path
     path-kept node h = up-kept node node h
-
-    pub depth-kept : (node : ℕ) → node ≤ length (p .contexts) → depth q node ≡ depth p node
-    unfolding depth
-    depth-kept node h = ap length (path-kept node h)

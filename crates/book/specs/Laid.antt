@@ -8,6 +8,9 @@ use Rattle.book.specs.Book.{Book, Section, letters, names, types, consta
 abbrev pub sectionAt : ℕ → Section
 sectionAt n = getD sections n letters
 
+abbrev pub sectionCount : ℕ
+sectionCount = 10
+
 -- the records of section s stand in the book, and their count is within its limit
 pub record Laid (b : Book) (s : Section) : Type 0 where
   pub contents : 8 * s .number + 8 ≤ length b

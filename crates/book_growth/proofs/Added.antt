@@ -7,11 +7,11 @@ use mathlib.Core.List.{[], _++_, append-assoc, append-nil}
 use lib.ListN.{length, take, length-append}
 use lib.Seq.{drop-append-add}
 use Rattle.book.specs.Book.{Book, letters, names, constants, axioms, terms, contexts, lists, word, offset, size, field, entries, nameText}
-use Rattle.book.specs.Laid.{sectionAt}
+use Rattle.book.specs.Laid.{sectionAt, sectionCount}
+use Rattle.book.proofs.EachSection.{each-section}
 use Rattle.book_contents.specs.Contents.{laidOut}
-use Rattle.book_layout.specs.Layout.{body, countOf, sectionCount, fieldIn, entriesIn, textIn, Bytes}
+use Rattle.book_layout.specs.Layout.{body, countOf, fieldIn, entriesIn, textIn, Bytes}
 use Rattle.book_growth.specs.Growth.{Addition, added, grownBody, grown, nothing, _⊕_, Whole, growsWithin}
-use Rattle.book_layout.proofs.EachSection.{each-section}
 use Rattle.book_layout.proofs.Assembled.{letters-part}
 use Rattle.book_layout.proofs.Whole.{length-body, assembled-body}
 use Rattle.book_layout.proofs.Agree.{assembled-agree}

@@ -10,11 +10,12 @@ use lib.Seq.{getD-append-add}
 use borrow.Author.Tests.{leb-true}
 use Rattle.basics.proofs.Counting.{below-each}
 use Rattle.book.specs.Book.{Book, letters, size, field, letter}
-use Rattle.book.specs.Laid.{sectionAt}
+use Rattle.book.specs.Laid.{sectionAt, sectionCount}
+use Rattle.book.proofs.EachSection.{size-positive}
 use Rattle.book_contents.specs.Contents.{laidOut, countsFit}
-use Rattle.book_layout.specs.Layout.{body, countOf, sectionCount, fieldIn, Fits, bookMost}
-use Rattle.book_growth.specs.Growth.{Addition, added, grownBody, grown, Whole, growsBy, growsWithin, Kept}
-use Rattle.book_layout.proofs.EachSection.{size-positive}
+use Rattle.book_test.specs.Kept.{Kept}
+use Rattle.book_layout.specs.Layout.{body, countOf, fieldIn, Fits, bookMost}
+use Rattle.book_growth.specs.Growth.{Addition, added, grownBody, grown, Whole, growsBy, growsWithin}
 use Rattle.book_layout.proofs.Assembled.{length-assembled, size-assembled, field-assembled, body-assembled, letter-assembled, body-ends}
 use Rattle.book_layout.proofs.Contents.{laid-out, counts-fit}
 use Rattle.book_layout.proofs.Whole.{length-body}

@@ -8,13 +8,14 @@ use Rattle.book.specs.Decode.{term, program}
 use Rattle.book_test.specs.BookTest.{bookTest}
 use Rattle.book_test.proofs.Outcomes.{test-passed}
 use Rattle.book_test.proofs.Promise.{promise}
-use Rattle.book_growth.specs.Growth.{Addition, grown, Whole, growsWithin, Kept}
+use Rattle.book_test.specs.Kept.{Kept}
+use Rattle.book_growth.specs.Growth.{Addition, grown, Whole, growsWithin}
 use Rattle.book.specs.Extends.{Extends}
 use Rattle.book_growth.proofs.Grown.{grown-kept}
 use Rattle.book_growth.proofs.Added.{size-axioms}
-use Rattle.book_growth.proofs.KeptRecords.{nameText-kept, entries-kept}
-use Rattle.book_growth.proofs.KeptTerms.{term-kept}
-use Rattle.book_growth.proofs.KeptProgram.{program-extends}
+use Rattle.book_test.proofs.KeptRecords.{nameText-kept, entries-kept}
+use Rattle.book_test.proofs.KeptTerms.{term-kept}
+use Rattle.book_test.proofs.KeptProgram.{program-extends}
 
 module _ (b : Book) (a : Addition) (tested : bookTest b ≡ accepted tt) (whole : Whole a) (fits : growsWithin b a ≡ true) where
   kept : Kept b (grown b a)

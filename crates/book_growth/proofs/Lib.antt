@@ -1,7 +1,4 @@
 pub mod Grown
-pub mod KeptRecords
-pub mod KeptTerms
-pub mod KeptProgram
 pub mod Added
 pub mod GrownProgram
 pub mod Order

@@ -1,22 +1,21 @@
 -- Refusal 3 of a grown book, by the six sections that grow.
-use Prim.Native.Nat.{ℕ, zero, suc, _+_, _-_, _/_, _≤_, _<_}
+use Prim.Native.Nat.{ℕ, _+_, _-_, _/_, _≤_, _<_}
 use native.Mathlib.Omega.{arith}
 use native.Mathlib.Decide.{decLe}
-use mathlib.Core.Path.{_≡_, refl, sym, _∙_}
+use mathlib.Core.Path.{_≡_, sym, _∙_}
 use mathlib.Core.Bool.{Bool, true, false, not}
 use mathlib.Core.List.{List}
 use lib.Dec.{leb}
 use lib.ListN.{length, getD}
 use borrow.Author.Tests.{le-leb, lt-leb}
-use Rattle.basics.specs.Lists.{allBelow}
-use Rattle.basics.proofs.Bool.{both-and}
+use Rattle.basics.proofs.Counting.{below-all}
 use Rattle.basics.proofs.Loops.{all-stop}
 use Rattle.book.specs.Book.{Book, letters, names, types, constants, functions, axioms, patterns, terms, contexts, lists, size}
-use Rattle.book.specs.Laid.{sectionAt, Laid, AllLaid, Reads}
+use Rattle.book.specs.Laid.{sectionAt, sectionCount, Laid, AllLaid, Reads}
 use Rattle.book.proofs.Sections.{sizes, limits, tabled}
-use Rattle.book_layout.specs.Layout.{sectionCount, countOf}
+use Rattle.book.proofs.EachSection.{each-section}
+use Rattle.book_layout.specs.Layout.{countOf}
 use Rattle.book_growth.specs.Growth.{addition, added, growsBy, growsWithin}
-use Rattle.book_layout.proofs.EachSection.{each-section}
 use Rattle.book_growth.specs.Parts.{countWithin}
 
 -- the code's test, which can't wrap, since the count is within its limit
@@ -33,11 +32,6 @@ within-by b n {k} more known laid many =
         at : Dec (k + x ≤ m) → leb x (m - k) ≡ leb (k + x) m
         at (yes l) = le-leb x (m - k) (omega arith) ∙ sym (le-leb (k + x) m l)
         at (no l) = lt-leb x (m - k) (omega arith) ∙ sym (lt-leb (k + x) m (omega arith))
-
-pub below-all : (n : ℕ) (test : ℕ → Bool) → ((i : ℕ) → i < n → test i ≡ true) → allBelow n test ≡ true
-unfolding allBelow
-below-all zero test h = refl
-below-all (suc n) test h = both-and (below-all n test (λ i l. h i (omega arith))) (h n (omega arith))
 
 module _ (b : Book) (l n c t x e : List ℕ) where
   -- the four sections that don't grow stay within their limits

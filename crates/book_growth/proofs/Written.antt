@@ -9,14 +9,14 @@ use borrow.Author.Tests.{leb-true}
 use Rattle.basics.specs.Lists.{joinBelow}
 use Rattle.basics.proofs.Counting.{below-each}
 use Rattle.book.specs.Book.{Book, letters, names, types, constants, functions, axioms, patterns, terms, contexts, lists, size}
-use Rattle.book.specs.Laid.{sectionAt}
+use Rattle.book.specs.Laid.{sectionAt, sectionCount}
+use Rattle.book.proofs.EachSection.{each-section}
 use Rattle.book_contents.specs.Contents.{laidOut}
-use Rattle.book_layout.specs.Layout.{body, countOf, sectionCount, bodyAt, entryOf, assembled}
+use Rattle.book_layout.specs.Layout.{body, countOf, bodyAt, entryOf, assembled}
 use Rattle.book_growth.specs.Growth.{Addition, addition, added, grownBody, grown, Whole, growsBy, growsWithin}
 use Rattle.book_layout.specs.Table.{tableBy, Counts}
 use Rattle.book_growth.specs.Parts.{grownCount, grownCounts, frontOf, backOf}
 use Rattle.book_layout.proofs.Tables.{table-by}
-use Rattle.book_layout.proofs.EachSection.{each-section}
 use Rattle.book_layout.proofs.Coded.{limit-fits}
 use Rattle.book_growth.proofs.Grown.{count-grown, grown-fits, grown-few}
 

@@ -1,14 +1,14 @@
 -- Books that grow: each section's body is the old one and then the new.
-use Prim.Native.Nat.{ℕ, _+_, _*_, _<_, _≤_}
+use Prim.Native.Nat.{ℕ, _+_, _*_, _<_}
 use mathlib.Core.Path.{_≡_}
 use mathlib.Core.Bool.{Bool}
 use mathlib.Core.List.{List, [], _∷_, _++_}
 use lib.Dec.{leb}
 use lib.ListN.{length, getD}
 use Rattle.basics.specs.Lists.{allBelow}
-use Rattle.book.specs.Book.{Book, letters, offset, size, field, letter}
-use Rattle.book.specs.Laid.{sectionAt}
-use Rattle.book_layout.specs.Layout.{Bodies, body, countOf, sectionCount, assembled}
+use Rattle.book.specs.Book.{Book, size}
+use Rattle.book.specs.Laid.{sectionAt, sectionCount}
+use Rattle.book_layout.specs.Layout.{Bodies, body, countOf, assembled}
 
 -- the bytes to append; types, functions, axioms and patterns stay
 pub record Addition : Type 0 where
@@ -58,10 +58,3 @@ growsBy b a n = leb (size b (sectionAt n) + countOf (added a) (sectionAt n)) (se
 
 unfoldable pub growsWithin : Book → Addition → Bool
 growsWithin b a = allBelow sectionCount (growsBy b a)
-
--- every record of b stands in c under its number
-pub record Kept (b c : Book) : Type 0 where
-  pub counts : (n : ℕ) → n < sectionCount → size b (sectionAt n) ≤ size c (sectionAt n)
-  pub fields : (n : ℕ) → n < sectionCount → (k i : ℕ) → k < size b (sectionAt n) → 4 * i + 4 ≤ sectionAt n .size → field c (sectionAt n) k i ≡ field b (sectionAt n) k i
-  pub letter : (i : ℕ) → i < size b letters → letter c i ≡ letter b i
-  pub letters-laid : offset c letters + size c letters ≤ length c

@@ -7,12 +7,12 @@ use lib.ListN.{length, getD, take, drop, length-append}
 use lib.Seq.{take-length}
 use Rattle.basics.specs.Lists.{joinBelow}
 use Rattle.book.specs.Book.{letters, names, lists, contentsSize, word, offset, size, field, entries, letter, nameText}
-use Rattle.book.specs.Laid.{sectionAt}
+use Rattle.book.specs.Laid.{sectionAt, sectionCount}
 use Rattle.book.proofs.Sections.{tabled}
 use Rattle.basics.specs.Bytes.{bytes4}
-use Rattle.book_layout.specs.Layout.{Bodies, body, countOf, sectionCount, bodyAt, startOf, entryOf, assembled, fieldIn, entriesIn, textIn, Fits}
+use Rattle.book_layout.specs.Layout.{Bodies, body, countOf, bodyAt, startOf, entryOf, assembled, fieldIn, entriesIn, textIn, Fits}
 use Rattle.book.proofs.Words.{length-bytes4, word-bytes4}
-use Rattle.book_layout.proofs.EachSection.{size-positive}
+use Rattle.book.proofs.EachSection.{size-positive}
 use Rattle.book_layout.proofs.Stands.{Stands, stands-fits, stands-at, stands-word, stands-part, stands-left, stands-right, stands-inner, stands-first, stands-second, stands-join}
 
 module _ (f : Bodies) where

@@ -10,11 +10,11 @@ use Rattle.basics.specs.Lists.{joinBelow}
 use Rattle.basics.specs.Write.{MOST, WroteAt}
 use Rattle.basics.proofs.Places.{at-then, at-as, at-none}
 use Rattle.book.specs.Book.{Book, offset, size}
-use Rattle.book.specs.Laid.{sectionAt, Laid, Reads}
+use Rattle.book.specs.Laid.{sectionAt, sectionCount, Laid, Reads}
 use Rattle.book.proofs.Sections.{sizes, tabled}
-use Rattle.book_layout.specs.Layout.{body, sectionCount}
+use Rattle.book.proofs.EachSection.{each-section, size-positive}
+use Rattle.book_layout.specs.Layout.{body}
 use Rattle.basics.specs.Bytes.{bytes4}
-use Rattle.book_layout.proofs.EachSection.{each-section, size-positive}
 use Rattle.book_layout.specs.Table.{startBy, lineBy, tableBy, Counts}
 
 pub contents-end : {b : Book} {n : ℕ} → n < sectionCount → Laid b (sectionAt n) → 8 * n + 8 ≤ length b

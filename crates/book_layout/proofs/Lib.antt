@@ -1,6 +1,5 @@
 pub mod Stands
 pub mod Rows
-pub mod EachSection
 pub mod Coded
 pub mod Assembled
 pub mod Contents
@@ -8,5 +7,4 @@ pub mod Whole
 pub mod Few
 pub mod Bodies
 pub mod Agree
-pub mod AllBytes
 pub mod Tables

@@ -5,8 +5,8 @@ use mathlib.Core.Path.{_≡_, refl}
 use mathlib.Core.List.{List}
 use lib.ListN.{getD}
 use Rattle.basics.specs.Lists.{joinBelow}
-use Rattle.book.specs.Laid.{sectionAt}
-use Rattle.book_layout.specs.Layout.{Bodies, countOf, sectionCount, startOf, entryOf, Fits}
+use Rattle.book.specs.Laid.{sectionAt, sectionCount}
+use Rattle.book_layout.specs.Layout.{Bodies, countOf, startOf, entryOf, Fits}
 use Rattle.book_layout.specs.Table.{startBy, lineBy, tableBy}
 use Rattle.book_layout.proofs.Agree.{join-agree}
 

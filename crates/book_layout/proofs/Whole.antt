@@ -1,5 +1,5 @@
 -- A book that passes refusal 2 is laid out from its own bodies.
-use Prim.Native.Nat.{ℕ, zero, suc, _+_, _*_, _^_, _≤_, _<_}
+use Prim.Native.Nat.{ℕ, zero, suc, _+_, _*_, _≤_, _<_}
 use native.Mathlib.Nat.{mul-div-cancel-left}
 use native.Mathlib.Omega.{arith}
 use mathlib.Core.Path.{_≡_, refl, sym, ap, _∙_}
@@ -12,13 +12,13 @@ use borrow.Author.Tests.{eqb-true, leb-true}
 use Rattle.basics.specs.Lists.{joinBelow}
 use Rattle.basics.proofs.Bool.{and-both}
 use Rattle.book.specs.Book.{Book, Section, letters, sections, contentsSize, word, offset, size}
-use Rattle.book.specs.Laid.{sectionAt}
+use Rattle.book.specs.Laid.{sectionAt, sectionCount}
 use Rattle.book.proofs.Sections.{tabled}
 use Rattle.book_contents.specs.Contents.{laidFrom, laidOut}
 use Rattle.basics.specs.Bytes.{bytes4}
-use Rattle.book_layout.specs.Layout.{body, countOf, sectionCount, bodyAt, startOf, entryOf, assembled, Fits, Bytes}
+use Rattle.book_layout.specs.Layout.{body, countOf, bodyAt, startOf, entryOf, assembled, Bytes}
 use Rattle.book.proofs.Words.{bytes4-word}
-use Rattle.book_layout.proofs.EachSection.{size-positive}
+use Rattle.book.proofs.EachSection.{size-positive}
 
 module _ (b : Book) where
   four-at : (at : ℕ) → at + 4 ≤ length b → take 4 (drop at b) ≡ getD b at 0 ∷ getD b (at + 1) 0 ∷ getD b (at + 2) 0 ∷ getD b (at + 3) 0 ∷ []
@@ -88,9 +88,6 @@ module _ (b : Book) where
       pub count-body : countOf (body b) (sectionAt n) ≡ size b (sectionAt n)
       unfolding countOf
       count-body = rw length-body (mul-div-cancel-left (size b (sectionAt n)) (size-positive n known))
-
-    pub body-fits : length b < 2 ^ 32 → Fits (body b)
-    body-fits h = record { whole = λ n known. rw (count-body n known) (length-body n known); small = omega (arith, ends) }
 
     bodies-are : (n : ℕ) → n ≤ sectionCount → take contentsSize b ++ joinBelow n (bodyAt (body b)) ≡ take (startOf (body b) n) b
     unfolding joinBelow startOf

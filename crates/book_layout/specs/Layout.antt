@@ -6,7 +6,7 @@ use lib.ListN.{length, getD, take, drop}
 use Rattle.basics.specs.Text.{Text}
 use Rattle.basics.specs.Lists.{joinBelow}
 use Rattle.book.specs.Book.{Book, Section, contentsSize, word, offset, size}
-use Rattle.book.specs.Laid.{sectionAt}
+use Rattle.book.specs.Laid.{sectionAt, sectionCount}
 use Rattle.basics.specs.Bytes.{bytes4}
 
 -- a body for each section
@@ -20,9 +20,6 @@ body b s = take (s .size * size b s) (drop (offset b s) b)
 -- how many records a section's body holds
 unfoldable pub countOf : Bodies → Section → ℕ
 countOf f s = length (f s) / s .size
-
-abbrev pub sectionCount : ℕ
-sectionCount = 10
 
 abbrev pub bodyAt : Bodies → ℕ → List ℕ
 bodyAt f n = f (sectionAt n)

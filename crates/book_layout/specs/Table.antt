@@ -6,8 +6,7 @@ use lib.ListN.{length, getD}
 use Rattle.basics.specs.Bytes.{bytes4}
 use Rattle.basics.specs.Lists.{joinBelow}
 use Rattle.book.specs.Book.{contentsSize}
-use Rattle.book.specs.Laid.{sectionAt}
-use Rattle.book_layout.specs.Layout.{sectionCount}
+use Rattle.book.specs.Laid.{sectionAt, sectionCount}
 
 unfoldable pub startBy : List ℕ → ℕ → ℕ
 startBy counts zero = contentsSize

@@ -12,3 +12,6 @@ pub mod TermLaw
 pub mod TermKinds
 pub mod EveryTerm
 pub mod Names
+pub mod KeptRecords
+pub mod KeptTerms
+pub mod KeptProgram

@@ -5,7 +5,7 @@ use mathlib.Core.Path.{_≡_, refl}
 use mathlib.Core.Bool.{Bool, true, false, not}
 use lib.Dec.{ltb}
 use borrow.Author.Tests.{ltb-false, not-false}
-use Rattle.basics.specs.Outcome.{Outcome, accepted, refuse, _>>_}
+use Rattle.basics.specs.Outcome.{Outcome, refused, accepted, refuse, _>>_}
 use Rattle.basics.specs.Buffer.{scratchLeast}
 use Rattle.book.specs.Book.{Book}
 use Rattle.book_contents.specs.Contents.{laidOut, countsFit}
@@ -17,6 +17,15 @@ pub passed : {A : Type 0} {a : A} (k : ℕ) (x : Bool) (rest : Outcome A) → (r
 unfolding refuse _>>_
 passed k true rest e = let z : _≡_ {A = ℕ} 0 1 = cc in absurd (omega arith)
 passed k false rest e = (refl, e)
+
+-- both of two steps were accepted
+pub both : {A : Type 0} {a : A} (o : Outcome (Unit {0})) (rest : Outcome A) → (o >> rest) ≡ accepted a → (o ≡ accepted tt) × (rest ≡ accepted a)
+unfolding _>>_
+both (refused k) rest e = let z : _≡_ {A = ℕ} 0 1 = cc in absurd (omega arith)
+both (accepted tt) rest e = (refl, e)
+
+pub same-answer : {A : Type 0} {x y : A} → accepted x ≡ accepted y → x ≡ y
+same-answer e = cc
 
 -- a test of the book that is refused where it fails
 held : {A : Type 0} {a : A} (k : ℕ) (x : Bool) (rest : Outcome A) → (refuse k (not x) >> rest) ≡ accepted a → (x ≡ true) × (rest ≡ accepted a)

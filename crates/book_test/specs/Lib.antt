@@ -1,2 +1,3 @@
 pub mod BookTest
 pub mod Promise
+pub mod Kept

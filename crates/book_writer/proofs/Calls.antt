@@ -8,7 +8,7 @@ use mathlib.Core.List.{List}
 use lib.Dec.{leb}
 use lib.ListN.{length, replicate, length-replicate}
 use borrow.Author.Tests.{lt-ltb, le-ltb, not-true, not-false}
-use Rattle.basics.specs.Text.{Text}
+use Rattle.basics.specs.Text.{Text, given}
 use Rattle.basics.specs.Outcome.{refused, accepted, refuse, _>>_, mapOutcome}
 use Rattle.basics.specs.Buffer.{scratchLeast, scratchAfter, bufferAfter}
 use Rattle.book.specs.Refusal.{number}
@@ -20,7 +20,6 @@ use Rattle.book_test.specs.declared.Tested.{Tested}
 use Rattle.book_test.specs.declared.Tested.the-variants.{Good, Refused}
 use Rattle.book_test.proofs.Outcomes.{ready-passed}
 use Rattle.book_test.proofs.Promise.{promise}
-use Rattle.new_records.specs.NewNames.{given}
 use Rattle.book_writer.specs.Growths.{Growth, extend, outsideAt, outside}
 use Rattle.book_writer.specs.Writing.{grow, lent, grownLeft, outcomeOf, growCall, appendedValue, Returned}
 use Rattle.book_writer.specs.Coded.{Spare, Ready, fitted, deliver, appendIn, growBelow, growIn, Appends}

@@ -9,7 +9,7 @@ use lib.ListN.{length, take}
 use lib.Seq.{length-take-le}
 use borrow.Author.Tests.{ltb-false}
 use Rattle.basics.proofs.Bool.{or-left}
-use Rattle.basics.specs.Text.{Text}
+use Rattle.basics.specs.Text.{Text, given}
 use Rattle.book.specs.Book.{Book, contexts, size}
 use Rattle.book.specs.Program.{depth}
 use Rattle.book.specs.Decode.{program}
@@ -18,7 +18,6 @@ use Rattle.contexts.specs.declared.Path as path-code
 use Rattle.name_search.specs.Probe.{probeName}
 use Rattle.name_search.specs.ProbeText.{IsProbeName}
 use Rattle.name_search.specs.declared.probe.ProbeName.{ProbeName}
-use Rattle.new_records.specs.NewNames.{given}
 use Rattle.book_writer.specs.Growths.{recordTerm, recordTracePoint, outsideAt, probeDraft, draftOf, additionOf, handedRight, numberOf}
 use Rattle.book_writer.specs.Coded.{growBelow, Appends, termOf, probeBy, probeBelow}
 use Rattle.book_writer.specs.declared.Appended.{Appended}

@@ -6,13 +6,14 @@ use mathlib.Core.Bool.{true, false, not}
 use lib.Dec.{ltb}
 use lib.ListN.{length}
 use borrow.Author.Tests.{ltb-false, not-false}
-use Rattle.basics.specs.Outcome.{Outcome, refused, accepted, _>>_, mapOutcome}
+use Rattle.basics.specs.Outcome.{Outcome, refused, accepted, mapOutcome}
 use Rattle.basics.specs.Buffer.{bufferAfter}
 use Rattle.basics.proofs.Laws.{take-overlay}
 use Rattle.book.specs.Book.{Book}
 use Rattle.book_test.specs.BookTest.{bookTest, ready}
-use Rattle.book_test.proofs.Outcomes.{passed, ready-passed, test-passed}
-use Rattle.book_growth.specs.Growth.{Addition, grown, growsWithin, Whole, Kept}
+use Rattle.book_test.proofs.Outcomes.{passed, both, same-answer, ready-passed, test-passed}
+use Rattle.book_test.specs.Kept.{Kept}
+use Rattle.book_growth.specs.Growth.{Addition, grown, growsWithin, Whole}
 use Rattle.book_growth.specs.Grows.{Grows}
 use Rattle.book_growth.proofs.Grown.{grown-kept}
 use Rattle.book_growth.proofs.GrownProgram.{grown-term, grown-program}
@@ -24,14 +25,6 @@ use Rattle.book_writer.proofs.Recorded.{addition-whole}
 pub grown-grows : (b : Book) (a : Addition) → bookTest b ≡ accepted tt → Whole a → growsWithin b a ≡ true → bookTest (grown b a) ≡ accepted tt → Grows b (grown b a)
 grown-grows b a ok w fits ok′ =
     record { before = ok; after = ok′; extends = grown-program b a ok w fits; kept = grown-term b a ok w fits }
-
-passed-all : {A : Type 0} {a : A} (o : Outcome (Unit {0})) (rest : Outcome A) → (o >> rest) ≡ accepted a → (o ≡ accepted tt) × (rest ≡ accepted a)
-unfolding _>>_
-passed-all (refused k) rest e = let z : _≡_ {A = ℕ} 0 1 = cc in absurd (omega arith)
-passed-all (accepted tt) rest e = (refl, e)
-
-accepted-is : {A : Type 0} {x y : A} → accepted x ≡ accepted y → x ≡ y
-accepted-is e = cc
 
 -- what the steps of an accepted call tell
 pub record Told (b : Book) (g : Growth) (room : ℕ) (x : Grown) : Type 0 where
@@ -48,11 +41,11 @@ unfolding grow
 grow-told scratch b g room x e =
     let a = additionOf b g in
     let c = grown b a in
-    let r1 = passed-all (ready scratch b) _ e in
+    let r1 = both (ready scratch b) _ e in
     let r7 = passed 7 (outside b g) _ (r1 .1) in
     let r3 = passed 3 (not (growsWithin b a)) _ (r7 .1) in
     let r4 = passed 4 (not (handedRight g)) _ (r3 .1) in
-    let r6 = passed-all (bookTest c) _ (r4 .1) in
+    let r6 = both (bookTest c) _ (r4 .1) in
     let r10 = passed 10 (ltb room (length c)) _ (r6 .1) in
     record {
       before = ready-passed scratch b (r1 .0) .1;
@@ -60,8 +53,8 @@ grow-told scratch b g room x e =
       within = not-false (growsWithin b a) (r3 .0);
       after = r6 .0;
       fits = ltb-false room (length c) (r10 .0);
-      number = ap (λ (z : Grown). z .number) (accepted-is (r10 .1));
-      book = ap (λ (z : Grown). z .book) (accepted-is (r10 .1));
+      number = ap (λ (z : Grown). z .number) (same-answer (r10 .1));
+      book = ap (λ (z : Grown). z .book) (same-answer (r10 .1));
     }
 
 -- what an accepted call keeps

@@ -10,7 +10,8 @@ use Rattle.basics.specs.Buffer.{bufferAfter, scratchAfter}
 use Rattle.book.specs.Refusal.{number}
 use Rattle.book.specs.Book.{Book}
 use Rattle.book_test.specs.BookTest.{bookTest, ready}
-use Rattle.book_growth.specs.Growth.{grown, growsWithin, Kept}
+use Rattle.book_test.specs.Kept.{Kept}
+use Rattle.book_growth.specs.Growth.{grown, growsWithin}
 use Rattle.book_growth.specs.Grows.{Grows}
 use Rattle.book_writer.specs.Growths.{Growth, additionOf, numberOf, outside, handedRight}
 use Rattle.book_writer.specs.declared.Appended as code

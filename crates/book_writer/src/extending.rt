@@ -5,7 +5,7 @@ ghost use Prim.Native.Nat.{suc};
 ghost use lib.ListN.{length};
 ghost use Rattle.book.specs.Book.{contexts, size};
 ghost use Rattle.book_test.specs.Promise.{Promise};
-ghost use Rattle.new_records.specs.NewNames.{given};
+ghost use Rattle.basics.specs.Text.{given};
 ghost use Rattle.book_writer.specs.Growths.{extend, extendWithEquality, outsideAt};
 ghost use Rattle.book_writer.specs.Writing.{lent, growCall, Returned};
 ghost use Rattle.book_writer.specs.Coded.{Ready, growBelow, growIn, Appends};

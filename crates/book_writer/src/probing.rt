@@ -3,7 +3,7 @@ ghost use Prim.Native.Nat.{_≤_};
 ghost use lib.ListN.{length};
 ghost use Rattle.book.specs.Book.{contexts, size};
 ghost use Rattle.name_search.specs.Probe.{probeMost};
-ghost use Rattle.new_records.specs.NewNames.{given};
+ghost use Rattle.basics.specs.Text.{given};
 ghost use Rattle.book_writer.specs.Growths.{recordTerm, recordTracePoint};
 ghost use Rattle.book_writer.specs.Writing.{lent, growCall, Returned};
 ghost use Rattle.book_writer.specs.Coded.{Ready, growIn, probeBelow, probeBy, termOf, Appends};

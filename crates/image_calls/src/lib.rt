@@ -5,7 +5,7 @@ ghost use lib.ListN.{length};
 ghost use Rattle.solvers.specs.Calls.{moveTo, askFor, replyWith, modelWith};
 ghost use Rattle.solvers.specs.Image.{imageSize, writeImage, calledOnImage};
 ghost use Rattle.solvers.specs.Returned.{lent};
-ghost use Rattle.replies.specs.Replies.{given};
+ghost use Rattle.basics.specs.Text.{given};
 ghost use Rattle.image_calls.specs.Stored.{Storing, Stored, ImageReturned, FreshImage};
 use images::IMAGE;
 use images::load;

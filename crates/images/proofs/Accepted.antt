@@ -14,7 +14,7 @@ use Rattle.book.specs.Book.{Book}
 use Rattle.book.specs.Decode.{program}
 use Rattle.book.proofs.Terms.{contexts-length}
 use Rattle.book_test.specs.BookTest.{bookTest, ready}
-use Rattle.book_test.proofs.Outcomes.{passed, ready-passed}
+use Rattle.book_test.proofs.Outcomes.{passed, both, ready-passed}
 use Rattle.book_test.proofs.Promise.{promise}
 use Rattle.rsolver.specs.LevelState.{levelled, fresh, noLevels}
 use Rattle.rsolver.specs.REngine.{setContext}
@@ -25,11 +25,6 @@ use Rattle.solvers.specs.Calls.{goalFits, isSession, moveCall, askCall, replyCa
 use Rattle.solvers.specs.Left.{Values, values, left, called}
 use Rattle.solvers.specs.Image.{imageSize, noSession, isImage, readImage, calledOnImage}
 use Rattle.images.proofs.Reading.{image-long, read-none}
-
-both : {A : Type 0} {a : A} (o : Outcome (Unit {0})) (rest : Outcome A) → (o >> rest) ≡ accepted a → (o ≡ accepted tt) × (rest ≡ accepted a)
-unfolding _>>_
-both (refused k) rest e = let z : _≡_ {A = ℕ} 0 1 = cc in absurd (omega arith)
-both (accepted tt) rest e = (refl, e)
 
 -- the book passed its test, and the session test 20
 record Tested (b : Book) (s : Session) : Type 0 where

@@ -4,7 +4,7 @@ ghost use mathlib.Core.List.{[]};
 ghost use Rattle.solvers.specs.Calls.{moveTo, askFor, replyWith, modelWith};
 ghost use Rattle.solvers.specs.Left.{called};
 ghost use Rattle.solvers.specs.Returned.{lent, Returned};
-ghost use Rattle.replies.specs.Replies.{given};
+ghost use Rattle.basics.specs.Text.{given};
 use solvers::Answer;
 use solvers::Session;
 

@@ -5,7 +5,7 @@ ghost use Rattle.solvers.specs.Calls.{moveTo, askFor, replyWith, modelWith};
 ghost use Rattle.solvers.specs.Left.{answerValue};
 ghost use Rattle.solvers.specs.Image.{calledOnImage};
 ghost use Rattle.solvers.specs.Returned.{lent};
-ghost use Rattle.replies.specs.Replies.{given};
+ghost use Rattle.basics.specs.Text.{given};
 ghost use Rattle.image_calls.specs.Stored.{freshImage};
 ghost use Rattle.leskofar.specs.Exports.{flag, answered, freshRefusal};
 use super::ACCEPTED;

@@ -1,7 +1,7 @@
 // The calls of the writer: what is appended to a book, and the grown book in a buffer of its own.
 ghost use mathlib.Core.Path.{_≡_};
 ghost use Rattle.new_records.specs.Drafts.{newTerm};
-ghost use Rattle.new_records.specs.NewNames.{given};
+ghost use Rattle.basics.specs.Text.{given};
 ghost use Rattle.book_writer.specs.Growths.{appendName, appendConstant, appendTerm, appendNode, extend, extendWithEquality, recordTerm, recordTracePoint};
 ghost use Rattle.book_writer.specs.Writing.{lent, growCall, appendedValue};
 ghost use Rattle.leskofar.specs.Exports.{flag, appended};

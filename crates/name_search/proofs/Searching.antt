@@ -63,6 +63,7 @@ module _ (b : Book) where
     pub first-is : (n : ℕ) → firstName b t ≡ some n → nameText b n ≡ t
     first-is n e = sym (text-at n (first-below n e)) ∙ same-eq _ t (first n e .here)
 
+    -- what the number means, for the reader: no earlier name is the text, and where there is none no name is (nothing cites these two)
     pub first-least : (n k : ℕ) → firstName b t ≡ some n → k < n → ¬ (nameText b k ≡ t)
     first-least n k e h q = differ (first n e .before k h) (text-at k (omega (arith, first-below n e)) ∙ q)
 

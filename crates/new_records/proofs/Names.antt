@@ -6,12 +6,12 @@ use mathlib.Core.Bool.{Bool, true, false, _&&_}
 use mathlib.Core.List.{List, [], _++_, append-nil}
 use mathlib.Core.Option.{Option, none, some}
 use lib.ListN.{length, length-append}
-use Rattle.basics.specs.Text.{Text, same, if_then_else_}
+use Rattle.basics.specs.Text.{Text, same, if_then_else_, given}
 use Rattle.book.specs.Book.{Book, names, size}
 use Rattle.name_search.specs.Names.{later, position, texts, firstName, numberOr}
 use Rattle.name_search.proofs.Searching.{orLater, position-append, texts-length, number-found, number-none}
 use Rattle.new_records.specs.Naming.{namedBy, named, equals, probeNamed, equalsNamed, traceNamed}
-use Rattle.new_records.specs.NewNames.{optional, newBefore, oneIf, isNone, given, IsBehind, IsNamed, AreNamed}
+use Rattle.new_records.specs.NewNames.{optional, newBefore, oneIf, isNone, IsBehind, IsNamed, AreNamed}
 use Rattle.new_records.specs.declared.naming.Numbered.{Numbered}
 
 pub one-most : (p : Bool) → oneIf p ≤ 1

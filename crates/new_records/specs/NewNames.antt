@@ -46,11 +46,6 @@ pub record IsNamed (b : Book) (t : Text) (before : List Text) (r : named-code.Nu
   pub low : r .number ≤ size b names + length before
   pub texts : named b t before .texts ≡ before ++ optional (r .new) t
 
--- a trace under its flag
-unfoldable pub given : Bool → Text → Option Text
-given false t = none
-given true t = some t
-
 pub record AreNamed (b : Book) (name : Text) (given : Option Text) (text : Text) (r : names-code.ProbeNames) : Type 0 where
   pub probe : r .probe ≡ probeNamed b name .number
   pub equals : r .equals ≡ equalsNamed b name .number

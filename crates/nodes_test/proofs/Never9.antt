@@ -18,7 +18,7 @@ use Rattle.book.specs.Book.{Book, contexts, size}
 use Rattle.book.specs.Program.{path}
 use Rattle.book.specs.Decode.{program}
 use Rattle.book_test.specs.BookTest.{bookTest, ready}
-use Rattle.book_test.proofs.Outcomes.{passed, ready-passed}
+use Rattle.book_test.proofs.Outcomes.{passed, both, same-answer, ready-passed}
 use Rattle.solvers.specs.declared.Owed.the-variants.{Nothing}
 use Rattle.solvers.specs.declared.Session.{Session}
 use Rattle.solvers.specs.Calls.{owes, isSession, Host, fitting, moveTo, call}
@@ -29,7 +29,7 @@ use Rattle.solvers.specs.ByBook.{callByBook, moveByBook}
 use Rattle.solvers.proofs.ByBook.{by-book}
 use Rattle.nodes_test.specs.NodesTest.{couldMove, firstFailing, allInside, nodesMost, nodesIn, nodesTested}
 use Rattle.nodes_test.specs.Reach.{Never9}
-use Rattle.nodes_test.proofs.Outcomes.{same-answer, both, past, refused-alike}
+use Rattle.nodes_test.proofs.Outcomes.{past, refused-alike}
 use Rattle.nodes_test.proofs.First.{first}
 
 -- a move, by the book alone

@@ -1,6 +1,6 @@
 -- What an outcome tells that is accepted, or refused.
 use Prim.Native.Nat.{ℕ}
-use mathlib.Core.Path.{_≡_, refl, sym, ap}
+use mathlib.Core.Path.{_≡_, sym, ap}
 use mathlib.Core.Bool.{Bool, true, false, false≢true}
 use Rattle.basics.specs.Outcome.{Outcome, refused, accepted, refuse, _>>_, mapOutcome}
 
@@ -11,15 +11,6 @@ isAccepted (accepted a) = true
 pub not-both : {A : Type 0} {k : ℕ} {a : A} → refused k ≡ accepted a → ⊥
 unfolding isAccepted
 not-both e = false≢true (ap isAccepted e)
-
-pub same-answer : {A : Type 0} {x y : A} → accepted x ≡ accepted y → x ≡ y
-same-answer e = cc
-
--- both of two steps were accepted
-pub both : {A : Type 0} {a : A} (o : Outcome (Unit {0})) (rest : Outcome A) → (o >> rest) ≡ accepted a → (o ≡ accepted tt) × (rest ≡ accepted a)
-unfolding _>>_
-both (refused k) rest e = absurd (not-both e)
-both (accepted tt) rest e = (refl, e)
 
 -- what holds behind a refusal that is not met
 pub past : {A : Type 0} (P : Outcome A → Type 0) (k : ℕ) {x : Bool} (rest : Outcome A) → x ≡ false → P rest → P (refuse k x >> rest)

@@ -2,7 +2,7 @@
 use mathlib.Core.Bool.{Bool, not}
 use mathlib.Core.List.{_∷_, _++_}
 use mathlib.Core.Option.{Option, none, some}
-use Rattle.basics.specs.Text.{Text, newline, if_then_else_}
+use Rattle.basics.specs.Text.{Text, newline}
 use Rattle.basics.specs.Outcome.{Outcome, refuse, _>>_}
 use Rattle.book.specs.Book.{Book}
 use Rattle.book.specs.Decode.{program}
@@ -10,10 +10,6 @@ use Rattle.solvers.specs.declared.Owed.the-variants.{Reply, Model}
 use Rattle.solvers.specs.declared.Session.{Session}
 use Rattle.solvers.specs.Session.{Written, isUnsat, giveReply, giveModel}
 use Rattle.solvers.specs.Calls.{owes, isSession, Host, fitting}
-
--- the model, if one came
-abbrev pub given : Bool → Text → Option Text
-given came model = if came then some model else none
 
 -- why a goal is not proved, as giveModel has it
 unfoldable pub reasonText : Text → Option Text → Text

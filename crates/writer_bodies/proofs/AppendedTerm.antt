@@ -10,7 +10,8 @@ use Rattle.book_test.specs.Promise.{Range, GoodPattern, GoodLiteral, GoodBuiltI
 use Rattle.book_test.proofs.Entries.{entries-each}
 use Rattle.book_test.proofs.TermLaw.{term-over}
 use Rattle.book_layout.proofs.Stands.{Stands, stands-first, stands-second}
-use Rattle.book_growth.proofs.KeptRecords.{map-agree, nameText-kept, typeOf-kept, constantOf-kept, functionOf-kept}
+use Rattle.basics.proofs.All.{map-agree}
+use Rattle.book_test.proofs.KeptRecords.{nameText-kept, typeOf-kept, constantOf-kept, functionOf-kept}
 use Rattle.new_records.specs.Drafts.{NewTerm, Draft, newTerm, rangeStart, termRow}
 use Rattle.book_writer.specs.Growths.{appendTerm, entryCount, wholeEntries, rangesOf, filled, termLists, draftOf}
 use Rattle.book_writer.proofs.Recorded.{whole-fours}

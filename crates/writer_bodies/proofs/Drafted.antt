@@ -11,18 +11,19 @@ use Rattle.basics.specs.Outcome.{accepted}
 use Rattle.basics.proofs.All.{All, end}
 use Rattle.book.specs.Book.{Book, Section, letters, names, types, constants, functions, patterns, terms, contexts, size, field}
 use Rattle.book.specs.Decode.{term}
-use Rattle.book.specs.Laid.{sectionAt}
+use Rattle.book.specs.Laid.{sectionAt, sectionCount}
 use Rattle.book_contents.specs.Contents.{laidOut}
 use Rattle.book_test.specs.BookTest.{bookTest}
 use Rattle.book_test.specs.Promise.{Promise}
 use Rattle.book_test.proofs.Outcomes.{test-passed}
 use Rattle.book_test.proofs.Promise.{promise}
-use Rattle.book_layout.specs.Layout.{countOf, sectionCount}
-use Rattle.book_layout.proofs.EachSection.{size-positive}
+use Rattle.book_layout.specs.Layout.{countOf}
+use Rattle.book.proofs.EachSection.{size-positive}
 use Rattle.book_layout.proofs.Rows.{length-rows, field-at}
-use Rattle.book_growth.specs.Growth.{added, grown, Whole, growsWithin, Kept}
+use Rattle.book_growth.specs.Growth.{added, grown, Whole, growsWithin}
 use Rattle.book_growth.proofs.Grown.{size-grown, field-added, grown-kept}
-use Rattle.book_growth.proofs.KeptTerms.{term-kept}
+use Rattle.book_test.specs.Kept.{Kept}
+use Rattle.book_test.proofs.KeptTerms.{term-kept}
 use Rattle.new_records.specs.Drafts.{Draft, nameRows, constantRow, termRow, nodeRow, additionFrom}
 use Rattle.book_writer.proofs.Recorded.{every-row, every-name}
 

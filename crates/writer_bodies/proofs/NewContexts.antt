@@ -11,7 +11,7 @@ use Rattle.book.specs.Book.{Book, names, constants, terms, contexts, lists, siz
 use Rattle.book.specs.SType.{SConstant}
 use Rattle.book.specs.RExpr.{RExpr, Boolean, Id}
 use Rattle.book.specs.Decode.{typeOf, constantOf, term, traceOf, program}
-use Rattle.book_growth.proofs.KeptRecords.{constantOf-kept, traceOf-kept}
+use Rattle.book_test.proofs.KeptRecords.{constantOf-kept, traceOf-kept}
 use Rattle.name_search.specs.Names.{texts}
 use Rattle.new_records.specs.Drafts.{Draft, trueTerm, identifier, equality, newNode, draft, termRow}
 use Rattle.new_records.specs.Naming.{named, equals, probeNamed, equalsNamed, traceNamed}

@@ -15,7 +15,7 @@ use Rattle.book_layout.proofs.Stands.{Stands, stands-fits, stands-word, stands-
 use Rattle.book_growth.specs.Growth.{added}
 use Rattle.book_growth.proofs.Grown.{size-grown}
 use Rattle.book_growth.proofs.Added.{entries-added}
-use Rattle.book_growth.proofs.KeptRecords.{entries-kept}
+use Rattle.book_test.proofs.KeptRecords.{entries-kept}
 use Rattle.new_records.specs.Drafts.{Draft, rangeStart, additionFrom}
 use Rattle.book_writer.specs.Growths.{entryCount, wholeEntries}
 use Rattle.book_writer.proofs.Recorded.{whole-fours}

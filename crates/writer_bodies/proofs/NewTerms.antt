@@ -20,8 +20,9 @@ use Rattle.book_test.proofs.TermLaw.{term-over}
 use Rattle.book_layout.specs.Layout.{entriesIn}
 use Rattle.book_layout.proofs.Rows.{entries-row}
 use Rattle.book_growth.proofs.Added.{lists-added, entries-added}
-use Rattle.book_growth.proofs.KeptRecords.{typeOf-kept}
-use Rattle.book_growth.proofs.KeptProgram.{up-goes-on, contextOf-kept}
+use Rattle.book_test.proofs.KeptRecords.{typeOf-kept}
+use Rattle.basics.proofs.Counting.{up-goes-on}
+use Rattle.book_test.proofs.KeptProgram.{contextOf-kept}
 use Rattle.name_search.specs.Names.{texts}
 use Rattle.new_records.specs.Drafts.{Draft, newConstant, trueTerm, identifier, equality, newNode, constantRow, termRow, nodeRow, additionFrom}
 use Rattle.new_records.specs.Naming.{equals}

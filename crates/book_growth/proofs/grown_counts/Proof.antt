@@ -1,20 +1,22 @@
-use mathlib.Core.Path.{_∙_}
+use mathlib.Core.Path.{refl, _∙_}
 use mathlib.Core.List.{[], _∷_}
 use native.Mathlib.Omega.{arith}
 use Rattle.book_layout.specs.Layout.{countOf}
 use Rattle.book_growth.specs.Growth.{added}
 use Rattle.book_growth.specs.Parts.{grownCount, grownCounts}
 use Rattle.book_growth.proofs.Written.{grows-each}
-use Rattle.book_growth.proofs.TwoParts.{letters-fit, letters-grow, letters-count, lists-fit, lists-grow, lists-count}
+use Rattle.book_growth.proofs.TwoParts.{parts-grow, parts-count}
 use borrow.Author.Needs.{needs}
 use Rattle.book_growth.proofs.grown_counts.Statement.{statement}
 use Rattle.book_growth.proofs.grown_counts.Tie as tie
 
 add-grown-count : tie.Need-add-grown-count
-add-grown-count c = omega (arith, letters-fit (c .before .before .before .before .before .before .before .before .before .args .book .now) (c .before .before .before .before .before .before .before .before .before .args .letters .now) (c .before .before .before .before .before .before .before .before .before .args .text .now) (c .before .before .before .before .before .before .before .before .before .args .names .now) (c .before .before .before .before .before .before .before .before .before .args .constants .now) (c .before .before .before .before .before .before .before .before .before .args .terms .now) (c .before .before .before .before .before .before .before .before .before .args .contexts .now) (c .before .before .before .before .before .before .before .before .before .args .first .now) (c .before .before .before .before .before .before .before .before .before .args .second .now) (c .before .before .before .before .before .before .before .before .before .pre .1))
+unfolding added
+add-grown-count c = omega (arith, parts-grow (c .before .before .before .before .before .before .before .before .before .args .book .now) 0 (omega arith) (c .before .before .before .before .before .before .before .before .before .args .letters .now) (c .before .before .before .before .before .before .before .before .before .args .text .now) _ refl (c .before .before .before .before .before .before .before .before .before .pre .1))
 
 grown-count-requires : tie.Need-grown-count-requires
-grown-count-requires c κs = (omega arith, c .before .before .before .before .before .before .before .before .before .pre .0 .letters-laid, letters-grow (c .before .before .before .before .before .before .before .before .before .args .book .now) (c .before .before .before .before .before .before .before .before .before .args .letters .now) (c .before .before .before .before .before .before .before .before .before .args .text .now) (c .before .before .before .before .before .before .before .before .before .args .names .now) (c .before .before .before .before .before .before .before .before .before .args .constants .now) (c .before .before .before .before .before .before .before .before .before .args .terms .now) (c .before .before .before .before .before .before .before .before .before .args .contexts .now) (c .before .before .before .before .before .before .before .before .before .args .first .now) (c .before .before .before .before .before .before .before .before .before .args .second .now) (c .before .before .before .before .before .before .before .before .before .pre .1))
+unfolding added
+grown-count-requires c κs = (omega arith, c .before .before .before .before .before .before .before .before .before .pre .0 .letters-laid, parts-grow (c .before .before .before .before .before .before .before .before .before .args .book .now) 0 (omega arith) (c .before .before .before .before .before .before .before .before .before .args .letters .now) (c .before .before .before .before .before .before .before .before .before .args .text .now) _ refl (c .before .before .before .before .before .before .before .before .before .pre .1))
 
 grown-count-requires-2 : tie.Need-grown-count-requires-2
 unfolding added
@@ -33,14 +35,16 @@ unfolding added
 grown-count-requires-9 c κs = (omega arith, c .before .before .before .before .before .before .before .before .before .before .before .before .before .before .before .before .before .pre .0 .contexts-laid, grows-each _ _ (c .before .before .before .before .before .before .before .before .before .before .before .before .before .before .before .before .before .pre .1) 8 (omega arith))
 
 add-grown-count-2 : tie.Need-add-grown-count-2
-add-grown-count-2 c = omega (arith, lists-fit (c .before .before .before .before .before .before .before .before .before .before .before .before .before .before .before .before .before .before .args .book .now) (c .before .before .before .before .before .before .before .before .before .before .before .before .before .before .before .before .before .before .args .letters .now) (c .before .before .before .before .before .before .before .before .before .before .before .before .before .before .before .before .before .before .args .text .now) (c .before .before .before .before .before .before .before .before .before .before .before .before .before .before .before .before .before .before .args .names .now) (c .before .before .before .before .before .before .before .before .before .before .before .before .before .before .before .before .before .before .args .constants .now) (c .before .before .before .before .before .before .before .before .before .before .before .before .before .before .before .before .before .before .args .terms .now) (c .before .before .before .before .before .before .before .before .before .before .before .before .before .before .before .before .before .before .args .contexts .now) (c .before .before .before .before .before .before .before .before .before .before .before .before .before .before .before .before .before .before .args .first .now) (c .before .before .before .before .before .before .before .before .before .before .before .before .before .before .before .before .before .before .args .second .now) (c .before .before .before .before .before .before .before .before .before .before .before .before .before .before .before .before .before .before .pre .1))
+unfolding added
+add-grown-count-2 c = omega (arith, parts-grow (c .before .before .before .before .before .before .before .before .before .before .before .before .before .before .before .before .before .before .args .book .now) 9 (omega arith) (c .before .before .before .before .before .before .before .before .before .before .before .before .before .before .before .before .before .before .args .first .now) (c .before .before .before .before .before .before .before .before .before .before .before .before .before .before .before .before .before .before .args .second .now) _ refl (c .before .before .before .before .before .before .before .before .before .before .before .before .before .before .before .before .before .before .pre .1))
 
 grown-count-requires-10 : tie.Need-grown-count-requires-10
-grown-count-requires-10 c κs = (omega arith, c .before .before .before .before .before .before .before .before .before .before .before .before .before .before .before .before .before .before .pre .0 .lists-laid, lists-grow (c .before .before .before .before .before .before .before .before .before .before .before .before .before .before .before .before .before .before .args .book .now) (c .before .before .before .before .before .before .before .before .before .before .before .before .before .before .before .before .before .before .args .letters .now) (c .before .before .before .before .before .before .before .before .before .before .before .before .before .before .before .before .before .before .args .text .now) (c .before .before .before .before .before .before .before .before .before .before .before .before .before .before .before .before .before .before .args .names .now) (c .before .before .before .before .before .before .before .before .before .before .before .before .before .before .before .before .before .before .args .constants .now) (c .before .before .before .before .before .before .before .before .before .before .before .before .before .before .before .before .before .before .args .terms .now) (c .before .before .before .before .before .before .before .before .before .before .before .before .before .before .before .before .before .before .args .contexts .now) (c .before .before .before .before .before .before .before .before .before .before .before .before .before .before .before .before .before .before .args .first .now) (c .before .before .before .before .before .before .before .before .before .before .before .before .before .before .before .before .before .before .args .second .now) (c .before .before .before .before .before .before .before .before .before .before .before .before .before .before .before .before .before .before .pre .1))
+unfolding added
+grown-count-requires-10 c κs = (omega arith, c .before .before .before .before .before .before .before .before .before .before .before .before .before .before .before .before .before .before .pre .0 .lists-laid, parts-grow (c .before .before .before .before .before .before .before .before .before .before .before .before .before .before .before .before .before .before .args .book .now) 9 (omega arith) (c .before .before .before .before .before .before .before .before .before .before .before .before .before .before .before .before .before .before .args .first .now) (c .before .before .before .before .before .before .before .before .before .before .before .before .before .before .before .before .before .before .args .second .now) _ refl (c .before .before .before .before .before .before .before .before .before .before .before .before .before .before .before .before .before .before .pre .1))
 
 returns : tie.Need-returns
 unfolding grownCounts grownCount countOf added
-returns c = λ i. (c .before .before .before .before .before .before .before .before .before .grown-count .ensures ∙ letters-count (c .before .before .before .before .before .before .before .before .before .before .before .before .before .before .before .before .before .before .before .args .book .now) (c .before .before .before .before .before .before .before .before .before .before .before .before .before .before .before .before .before .before .before .args .letters .now) (c .before .before .before .before .before .before .before .before .before .before .before .before .before .before .before .before .before .before .before .args .text .now)) i ∷ c .before .before .before .before .before .before .before .before .grown-count2 .ensures i ∷ c .before .before .before .before .before .before .before .grown-count3 .ensures i ∷ c .before .before .before .before .before .before .grown-count4 .ensures i ∷ c .before .before .before .before .before .grown-count5 .ensures i ∷ c .before .before .before .before .grown-count6 .ensures i ∷ c .before .before .before .grown-count7 .ensures i ∷ c .before .before .grown-count8 .ensures i ∷ c .before .grown-count9 .ensures i ∷ (c .grown-count10 .ensures ∙ lists-count (c .before .before .before .before .before .before .before .before .before .before .before .before .before .before .before .before .before .before .before .args .book .now) (c .before .before .before .before .before .before .before .before .before .before .before .before .before .before .before .before .before .before .before .args .first .now) (c .before .before .before .before .before .before .before .before .before .before .before .before .before .before .before .before .before .before .before .args .second .now)) i ∷ []
+returns c = λ i. (c .before .before .before .before .before .before .before .before .before .grown-count .ensures ∙ parts-count (c .before .before .before .before .before .before .before .before .before .before .before .before .before .before .before .before .before .before .before .args .book .now) 0 (omega arith) (c .before .before .before .before .before .before .before .before .before .before .before .before .before .before .before .before .before .before .before .args .letters .now) (c .before .before .before .before .before .before .before .before .before .before .before .before .before .before .before .before .before .before .before .args .text .now)) i ∷ c .before .before .before .before .before .before .before .before .grown-count2 .ensures i ∷ c .before .before .before .before .before .before .before .grown-count3 .ensures i ∷ c .before .before .before .before .before .before .grown-count4 .ensures i ∷ c .before .before .before .before .before .grown-count5 .ensures i ∷ c .before .before .before .before .grown-count6 .ensures i ∷ c .before .before .before .grown-count7 .ensures i ∷ c .before .before .grown-count8 .ensures i ∷ c .before .grown-count9 .ensures i ∷ (c .grown-count10 .ensures ∙ parts-count (c .before .before .before .before .before .before .before .before .before .before .before .before .before .before .before .before .before .before .before .args .book .now) 9 (omega arith) (c .before .before .before .before .before .before .before .before .before .before .before .before .before .before .before .before .before .before .before .args .first .now) (c .before .before .before .before .before .before .before .before .before .before .before .before .before .before .before .before .before .before .before .args .second .now)) i ∷ []
 
 pub grown-counts-spec : {M : Type 1} → statement M
 grown-counts-spec =

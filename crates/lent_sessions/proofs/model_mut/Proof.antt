@@ -57,7 +57,7 @@ use Rattle.solvers.proofs.Owed.Laws as O′
 use Rattle.solvers.specs.Calls.{modelWith}
 use Rattle.solvers.specs.Left.{called}
 use Rattle.solvers.specs.Returned.{lent, Returned}
-use Rattle.replies.specs.Replies.{given}
+use Rattle.basics.specs.Text.{given}
 use Rattle.replies.proofs.give_model as core
 use Rattle.replies.proofs.give_model.Symbol as core-def
 use Rattle.replies.proofs.give_model.Symbol.{name as #replies·give-model}

@@ -3,7 +3,8 @@ use Rattle.solvers.specs.Calls.{modelWith, hostOf, call, modelCall, fitting}
 use Rattle.solvers.specs.Returned.{lent}
 use Rattle.solvers.proofs.Returned.{book-good, call-stops, call-passes}
 use mathlib.Core.List.{[]}
-use Rattle.replies.specs.Replies.{given, modelOwed, modelIn}
+use Rattle.basics.specs.Text.{given}
+use Rattle.replies.specs.Replies.{modelOwed, modelIn}
 use borrow.Author.Needs.{needs}
 use Rattle.replies.proofs.model.give_model.Statement.{statement}
 use Rattle.replies.proofs.model.give_model.Tie as tie

@@ -1,10 +1,12 @@
 use mathlib.Core.Path.{sym, _∙_}
+use Rattle.basics.specs.Text.{given}
 use Rattle.replies.proofs.Behind.{check-failed, goal-proved, model-asked}
 use borrow.Author.Needs.{needs}
 use Rattle.replies.proofs.reply.reply_owed.Statement.{statement}
 use Rattle.replies.proofs.reply.reply_owed.Tie as tie
 
 returns : tie.Need-returns
+unfolding given
 returns c = check-failed _ _ _ _ _ (c .before .before .before .before .before .before .before .if1 .taken) (c .before .before .before .before .close-unproved .ensures)
 
 returns-2 : tie.Need-returns-2

@@ -5,16 +5,16 @@ use mathlib.Core.Path.{_≡_, refl, sym, _∙_}
 use mathlib.Core.List.{List}
 use mathlib.Core.Bool.{false}
 use lib.ListN.{getD}
-use Rattle.basics.proofs.All.{All, end, more}
+use Rattle.basics.proofs.All.{All, end, more, map-agree}
 use Rattle.book.specs.Book.{Book, constants, patterns, terms, size, field}
 use Rattle.book.specs.RExpr.{RExpr, Boolean}
 use Rattle.book.specs.Decode.{Kind, boolean, integer, customLiteral, id, builtIn, application, ifThenElse, letExpr, quantifierExpr, kindOf, constantOf, toRExprs, toRPatterns, argsOf, patternOf, termBy, termOver, firstTerms, term, literalBy, literalAt}
 use Rattle.book.proofs.Terms.{first-at, term-is}
 use Rattle.book_test.specs.Promise.{Range, GoodPattern, GoodKind, Promise}
 use Rattle.book_test.proofs.Entries.{entries-each}
 use Rattle.book_test.proofs.TermLaw.{term-over}
-use Rattle.book_growth.specs.Growth.{Kept}
-use Rattle.book_growth.proofs.KeptRecords.{map-agree, nameText-kept, entries-kept, constantOf-kept, functionOf-kept, literalOf-kept}
+use Rattle.book_test.specs.Kept.{Kept}
+use Rattle.book_test.proofs.KeptRecords.{nameText-kept, entries-kept, constantOf-kept, functionOf-kept, literalOf-kept}
 
 module _ (b c : Book) (P : Promise b) (K : Kept b c) where
   module _ (t : ℕ) (here : t < size b terms) where

@@ -2,20 +2,14 @@
 use Prim.Native.Nat.{ℕ, zero, suc, _+_, _*_, _≤_, _<_}
 use native.Mathlib.Omega.{arith}
 use mathlib.Core.Path.{_≡_, refl, sym, _∙_}
-use mathlib.Core.List.{List, map}
 use lib.ListN.{length, take, drop, length-take, length-drop}
 use lib.Seq.{getD-take, getD-drop, ext-getD}
-use Rattle.basics.proofs.All.{All, end, more}
+use Rattle.basics.proofs.All.{map-agree}
 use Rattle.book.specs.Book.{Book, letters, names, types, constants, functions, terms, lists, offset, size, field, entries, letter, nameText, userTypes}
 use Rattle.book.specs.Decode.{typeOf, constantOf, functionOf, literalOf, traceOf}
 use Rattle.book_test.specs.Promise.{GoodLiteral, Promise}
 use Rattle.book_test.proofs.Entries.{entries-each}
-use Rattle.book_growth.specs.Growth.{Kept}
-
--- functions that agree on a list's elements
-pub map-agree : {A B : Type 0} (Q : A → Type 0) (f g : A → B) → ((x : A) → Q x → f x ≡ g x) → {xs : List A} → All Q xs → map f xs ≡ map g xs
-map-agree Q f g h end = refl
-map-agree Q f g h (more {a = x} q qs) = rw (h x q, map-agree Q f g h qs)
+use Rattle.book_test.specs.Kept.{Kept}
 
 module _ (b c : Book) (P : Promise b) (K : Kept b c) where
   text-kept : (start count : ℕ) → start + count ≤ size b letters → take count (drop (offset c letters + start) c) ≡ take count (drop (offset b letters + start) b)

@@ -1,46 +1,20 @@
 -- Two books, the second with every record of the first and no more axioms: its program goes on behind the first one's.
-use Prim.Native.Nat.{ℕ, zero, suc, _+_, _-_, _≤_, _<_}
-use native.Mathlib.Nat.{zero-add}
+use Prim.Native.Nat.{ℕ, _-_, _<_}
 use native.Mathlib.Omega.{arith}
-use mathlib.Core.Path.{_≡_, refl, ap, _∙_}
+use mathlib.Core.Path.{_≡_, refl}
 use mathlib.Core.Bool.{Bool, true, false}
-use mathlib.Core.List.{_++_, map}
+use mathlib.Core.List.{map}
 use lib.Dec.{eqb}
 use borrow.Author.Tests.{eqb-false}
 use Rattle.basics.specs.Lists.{upTo}
+use Rattle.basics.proofs.Counting.{up-same, up-goes-on}
 use Rattle.book.specs.Book.{Book, axioms, terms, contexts, size, field, noTerm}
 use Rattle.book.specs.Decode.{term, literalAt, axiomTerm, axiomOf, contextOf, program}
 use Rattle.book_test.specs.Promise.{Promise}
-use Rattle.book_growth.specs.Growth.{Kept}
+use Rattle.book_test.specs.Kept.{Kept}
 use Rattle.book.specs.Extends.{Extends}
-use Rattle.book_growth.proofs.KeptRecords.{entries-kept, traceOf-kept}
-use Rattle.book_growth.proofs.KeptTerms.{literalAt-kept, term-kept}
-
-up-same : {A : Type 0} (f g : ℕ → A) (start count : ℕ) → ((i : ℕ) → i < start + count → f i ≡ g i) → map f (upTo start count) ≡ map g (upTo start count)
-unfolding upTo
-up-same f g start zero h = refl
-up-same f g start (suc count) h = rw (h start (omega arith), up-same f g (suc start) count (λ i l. h i (omega arith)))
-
--- f on the numbers from `start`, where it agrees with g, and then on the rest
-up-more : {A : Type 0} (f g : ℕ → A) (start count more : ℕ) → ((i : ℕ) → i < start + count → f i ≡ g i)
-    → map f (upTo start (count + more)) ≡ map g (upTo start count) ++ map f (upTo (start + count) more)
-unfolding upTo
-up-more f g start zero more h =
-    let e : 0 + more ≡ more = zero-add more in
-    let s : start + 0 ≡ start = omega arith in
-    rw (e, s)
-up-more f g start (suc count) more h =
-    let e : suc count + more ≡ suc (count + more) = omega arith in
-    let s : start + suc count ≡ suc start + count = omega arith in
-    rw (e, s, h start (omega arith), up-more f g (suc start) count more (λ i l. h i (omega arith)))
-
--- the same for as many as a larger number says
-pub up-goes-on : {A : Type 0} (f g : ℕ → A) (n m : ℕ) → n ≤ m → ((i : ℕ) → i < n → f i ≡ g i) → map f (upTo 0 m) ≡ map g (upTo 0 n) ++ map f (upTo n (m - n))
-up-goes-on f g n m l h =
-    let e : m ≡ n + (m - n) = omega arith in
-    let z : 0 + n ≡ n = zero-add n in
-    let all : map f (upTo 0 (n + (m - n))) ≡ map g (upTo 0 n) ++ map f (upTo (0 + n) (m - n)) = up-more f g 0 n (m - n) (λ i k. h i (omega arith)) in
-    ap (λ (k : ℕ). map f (upTo 0 k)) e ∙ (rw z at all)
+use Rattle.book_test.proofs.KeptRecords.{entries-kept, traceOf-kept}
+use Rattle.book_test.proofs.KeptTerms.{literalAt-kept, term-kept}
 
 module _ (b c : Book) (P : Promise b) (K : Kept b c) where
   axiomTerm-kept : (x : Bool) (t : ℕ) → (x ≡ false → t < size b terms) → axiomTerm c x t ≡ axiomTerm b x t
@@ -73,13 +47,28 @@ module _ (b c : Book) (P : Promise b) (K : Kept b c) where
         traceOf-kept b c P K (field b contexts k 2) (G .trace),
       )
 
+  same-axioms : size c axioms ≡ size b axioms → map (axiomOf c) (upTo 0 (size c axioms)) ≡ map (axiomOf b) (upTo 0 (size b axioms))
+  same-axioms e = rw e (up-same (axiomOf c) (axiomOf b) 0 (size b axioms) (λ k l. axiomOf-kept k (omega arith)))
+
   pub program-extends : size c axioms ≡ size b axioms → Extends (program b) (program c)
   unfolding program
   program-extends e =
       record {
-        same-axioms = rw e (up-same (axiomOf c) (axiomOf b) 0 (size b axioms) (λ k l. axiomOf-kept k (omega arith)));
+        same-axioms = same-axioms e;
         new-literals = map (literalAt c) (upTo (size b terms) (size c terms - size b terms));
         more-literals = up-goes-on (literalAt c) (literalAt b) (size b terms) (size c terms) (K .counts 7 (omega arith)) (literalAt-kept b c P K);
         new-contexts = map (contextOf c) (upTo (size b contexts) (size c contexts - size b contexts));
         more-contexts = up-goes-on (contextOf c) (contextOf b) (size b contexts) (size c contexts) (K .counts 8 (omega arith)) contextOf-kept;
       }
+
+  -- with no more of anything it is the same
+  pub program-kept : size c axioms ≡ size b axioms → size c terms ≡ size b terms → size c contexts ≡ size b contexts → program c ≡ program b
+  unfolding program
+  program-kept e et ec =
+      rw (
+        same-axioms e,
+        et,
+        ec,
+        up-same (literalAt c) (literalAt b) 0 (size b terms) (λ t l. literalAt-kept b c P K t (omega arith)),
+        up-same (contextOf c) (contextOf b) 0 (size b contexts) (λ k l. contextOf-kept k (omega arith)),
+      )
