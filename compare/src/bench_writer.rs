@@ -22,7 +22,10 @@ const PARTS: [usize; 4] = [16, 8, 4, 2];
 /// left for the text.
 const SHARED: [usize; 4] = [512, 1024, 2048, 4096];
 const LETTER: u8 = b'a';
-const LAST: u8 = b'b';
+const OTHER: u8 = b'b';
+/// Letters at the end of a text that the library compares first: a text that
+/// differs just before them costs the most.
+const COMPARED_FIRST: usize = 8;
 /// A text that is looked for among all names, and not found.
 const TEXT: &[u8] = b"not among the others";
 /// The most records that a call appends to a section: letters.
@@ -124,7 +127,7 @@ pub fn run() {
         let mut m = names_alike(letters);
         let free = with_free_terms(&mut m);
         let mut trace = vec![LETTER; letters];
-        trace[letters - 1] = LAST;
+        trace[letters - COMPARED_FIRST - 1] = OTHER;
         let name = format!("names that share {letters} letters");
         let growth = extend(0, free, Some(&trace));
         bench("extend", &name, &growth, &m.book());
