@@ -1,5 +1,5 @@
--- RSolver.dfy's Extend, ExtendWithEquality, Record and RecordTracePoint, in its order and by its names; and that an accepted call of the writer
--- appends just what they return. Proved in proofs/Made.antt: makes-context.
+-- RSolver.dfy's Extend, ExtendWithEquality, Record and RecordTracePoint, in its order and by its names, with capitals, since the writer's
+-- calls have the others; and that an accepted call appends just what they return. Proved in proofs/Made.antt: makes-context.
 use Prim.Native.Nat.{ℕ, _^_, _<_}
 use mathlib.Core.Path.{_≡_}
 use mathlib.Core.Option.{Option, none, some}
