@@ -13,4 +13,3 @@ pub mod Growths
 pub mod Sessions
 pub mod Searches
 pub mod Nodes
-pub mod Scripts

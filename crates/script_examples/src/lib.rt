@@ -1,0 +1,1 @@
+// Worked examples of program script: see proofs/.
