@@ -1,7 +1,7 @@
 -- append_term: the new term is what its fields and lists stand for in the book received.
 use Prim.Native.Nat.{ℕ, zero, suc, _+_, _*_, _^_, _≤_, _<_}
 use native.Mathlib.Omega.{arith}
-use mathlib.Core.Path.{_≡_, refl, ap, _∙_}
+use mathlib.Core.Path.{_≡_, refl, sym, ap, subst, _∙_}
 use mathlib.Core.List.{List, map}
 use lib.ListN.{length, getD, length-append}
 use Rattle.book.specs.Book.{Book, names, types, constants, functions, patterns, terms, lists, size, field, userTypes}
@@ -9,6 +9,7 @@ use Rattle.book.specs.Decode.{kindOf, toRExprs, constantOf, literalOf, argsOf, 
 use Rattle.book_test.specs.Promise.{Range, GoodPattern, GoodLiteral, GoodBuiltIn, GoodApplication, GoodIfThenElse, GoodLet, GoodQuantifier, GoodKind, GoodTerm}
 use Rattle.book_test.proofs.Entries.{entries-each}
 use Rattle.book_test.proofs.TermLaw.{term-over}
+use Rattle.book_test.proofs.TermKinds.{each-kind}
 use Rattle.book_layout.proofs.Stands.{Stands, stands-first, stands-second}
 use Rattle.basics.proofs.All.{map-agree}
 use Rattle.book_test.proofs.KeptRecords.{nameText-kept, typeOf-kept, constantOf-kept, functionOf-kept}
@@ -221,27 +222,12 @@ module _ (b : Book) (first second : List ℕ) (f1 f2 f3 f4 f5 f6 : ℕ) where
       is-over b t first second G h
       ∙ rw (vs, ps, first-are, second-are, has-1 b t first second G h, has-6 b t first second G h, old-term b d G f6 (omega (arith, g .body, has-6 b t first second G h)))
 
-each-kind : (Q : ℕ → Type 0) → Q 0 → Q 1 → Q 2 → Q 3 → Q 4 → Q 5 → Q 6 → Q 7 → Q 8 → (k : ℕ) → k < 9 → Q k
-each-kind Q a b c d e f g h i zero known = a
-each-kind Q a b c d e f g h i (suc zero) known = b
-each-kind Q a b c d e f g h i (suc (suc zero)) known = c
-each-kind Q a b c d e f g h i (suc (suc (suc zero))) known = d
-each-kind Q a b c d e f g h i (suc (suc (suc (suc zero)))) known = e
-each-kind Q a b c d e f g h i (suc (suc (suc (suc (suc zero))))) known = f
-each-kind Q a b c d e f g h i (suc (suc (suc (suc (suc (suc zero)))))) known = g
-each-kind Q a b c d e f g h i (suc (suc (suc (suc (suc (suc (suc zero))))))) known = h
-each-kind Q a b c d e f g h i (suc (suc (suc (suc (suc (suc (suc (suc zero)))))))) known = i
-each-kind Q a b c d e f g h i (suc (suc (suc (suc (suc (suc (suc (suc (suc k))))))))) known = absurd (omega arith)
-
 pub term-made : (b : Book) (t : NewTerm) (first second : List ℕ) → Makes b t first second
 term-made b t first second G h =
-    let f1 = t .field1 in
-    let f2 = t .field2 in
-    let f3 = t .field3 in
-    let f4 = t .field4 in
-    let f5 = t .field5 in
-    let f6 = t .field6 in
-    each-kind (λ k. Makes b (newTerm k f1 f2 f3 f4 f5 f6) first second) (boolean-made b first second f1 f2 f3 f4 f5 f6) (integer-made b first second f1 f2 f3 f4 f5 f6)
-    (literal-made b first second f1 f2 f3 f4 f5 f6) (id-made b first second f1 f2 f3 f4 f5 f6) (built-in-made b first second f1 f2 f3 f4 f5 f6)
-    (application-made b first second f1 f2 f3 f4 f5 f6) (if-then-else-made b first second f1 f2 f3 f4 f5 f6) (let-made b first second f1 f2 f3 f4 f5 f6)
-    (quantifier-made b first second f1 f2 f3 f4 f5 f6) (t .kind) (kind-known b t first second G h) G h
+    each-kind (t .kind) (kind-known b t first second G h) (by (boolean-made b first second _ _ _ _ _ _)) (by (integer-made b first second _ _ _ _ _ _))
+    (by (literal-made b first second _ _ _ _ _ _)) (by (id-made b first second _ _ _ _ _ _)) (by (built-in-made b first second _ _ _ _ _ _))
+    (by (application-made b first second _ _ _ _ _ _)) (by (if-then-else-made b first second _ _ _ _ _ _)) (by (let-made b first second _ _ _ _ _ _))
+    (by (quantifier-made b first second _ _ _ _ _ _)) G h
+  where
+    by : {k : ℕ} → Makes b (newTerm k (t .field1) (t .field2) (t .field3) (t .field4) (t .field5) (t .field6)) first second → t .kind ≡ k → Makes b t first second
+    by m e = subst (λ (k : ℕ). Makes b (newTerm k (t .field1) (t .field2) (t .field3) (t .field4) (t .field5) (t .field6)) first second) (sym e) m
