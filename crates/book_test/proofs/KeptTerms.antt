@@ -8,11 +8,11 @@ use lib.ListN.{getD}
 use Rattle.basics.proofs.All.{All, end, more, map-agree}
 use Rattle.book.specs.Book.{Book, constants, patterns, terms, size, field}
 use Rattle.book.specs.RExpr.{RExpr, Boolean}
-use Rattle.book.specs.Decode.{Kind, boolean, integer, customLiteral, id, builtIn, application, ifThenElse, letExpr, quantifierExpr, kindOf, constantOf, toRExprs, toRPatterns, argsOf, patternOf, termBy, termOver, firstTerms, term, literalBy, literalAt}
+use Rattle.book.specs.Decode.{Kind, boolean, integer, customLiteral, id, builtIn, application, ifThenElse, letExpr, quantifierExpr, kindOf, constantOf, toRPatterns, argsOf, patternOf, termBy, termOver, firstTerms, term, literalBy, literalAt}
 use Rattle.book.proofs.Terms.{first-at, term-is}
 use Rattle.book_test.specs.Promise.{Range, GoodPattern, GoodKind, Promise}
 use Rattle.book_test.proofs.Entries.{entries-each}
-use Rattle.book_test.proofs.TermLaw.{term-over}
+use Rattle.book_test.proofs.TermLaw.{children-agree, term-over}
 use Rattle.book_test.specs.Kept.{Kept}
 use Rattle.book_test.proofs.KeptRecords.{nameText-kept, entries-kept, constantOf-kept, functionOf-kept, literalOf-kept}
 
@@ -24,14 +24,9 @@ module _ (b c : Book) (P : Promise b) (K : Kept b c) where
 
     -- over children that agree below t
     module _ (f g : ℕ → RExpr) (agree : (x : ℕ) → x < t → f x ≡ g x) where
-      children-kept : {xs : List ℕ} → All (λ x. x < t) xs → toRExprs f xs ≡ toRExprs g xs
-      unfolding toRExprs
-      children-kept end = refl
-      children-kept (more {a = x} h hs) = rw (agree x h, children-kept hs)
-
       args-kept : (start count : ℕ) → Range b t start count → argsOf c f start count ≡ argsOf b g start count
       unfolding argsOf
-      args-kept start count r = rw (entries-kept b c P K start count (r .ends)) (children-kept (entries-each b (λ x. x < t) start count (r .below)))
+      args-kept start count r = rw (entries-kept b c P K start count (r .ends)) (children-agree t f g agree (entries-each b (λ x. x < t) start count (r .below)))
 
       pattern-kept : (p : ℕ) → GoodPattern b t p → patternOf c f p ≡ patternOf b g p
       unfolding patternOf

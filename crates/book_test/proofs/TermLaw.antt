@@ -12,15 +12,16 @@ use Rattle.book.proofs.Terms.{first-at, term-is}
 use Rattle.book_test.specs.Promise.{Range, GoodPattern, GoodKind, Promise}
 use Rattle.book_test.proofs.Entries.{entries-each}
 
-module _ (b : Book) (t : ℕ) (f g : ℕ → RExpr) (agree : (c : ℕ) → c < t → f c ≡ g c) where
-  children-agree : {cs : List ℕ} → All (λ c. c < t) cs → toRExprs f cs ≡ toRExprs g cs
-  unfolding toRExprs
-  children-agree end = refl
-  children-agree (more {a = c} h hs) = rw (agree c h, children-agree hs)
+-- what agrees below a number makes the same of children below it
+pub children-agree : (t : ℕ) (f g : ℕ → RExpr) → ((c : ℕ) → c < t → f c ≡ g c) → {cs : List ℕ} → All (λ c. c < t) cs → toRExprs f cs ≡ toRExprs g cs
+unfolding toRExprs
+children-agree t f g agree end = refl
+children-agree t f g agree (more {a = c} h hs) = rw (agree c h, children-agree t f g agree hs)
 
+module _ (b : Book) (t : ℕ) (f g : ℕ → RExpr) (agree : (c : ℕ) → c < t → f c ≡ g c) where
   args-agree : (start count : ℕ) → Range b t start count → argsOf b f start count ≡ argsOf b g start count
   unfolding argsOf
-  args-agree start count r = children-agree (entries-each b (λ c. c < t) start count (r .below))
+  args-agree start count r = children-agree t f g agree (entries-each b (λ c. c < t) start count (r .below))
 
   patterns-agree : {ps : List ℕ} → All (GoodPattern b t) ps → toRPatterns (patternOf b f) ps ≡ toRPatterns (patternOf b g) ps
   unfolding toRPatterns patternOf

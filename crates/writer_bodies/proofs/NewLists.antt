@@ -6,10 +6,10 @@ use mathlib.Core.List.{List, [], append-nil}
 use lib.ListN.{length, take, drop, take-append-drop}
 use Rattle.basics.proofs.All.{All, end, more}
 use Rattle.book.specs.Book.{Book, patterns, terms, lists, size, field, entries}
-use Rattle.book.specs.RExpr.{RExpr}
 use Rattle.book.specs.Decode.{toRExprs, toRPatterns, argsOf, patternOf, term}
 use Rattle.book_test.specs.Promise.{Range, GoodPattern}
 use Rattle.book_test.proofs.Entries.{entries-each}
+use Rattle.book_test.proofs.TermLaw.{children-agree}
 use Rattle.book_layout.specs.Layout.{countOf, entriesIn}
 use Rattle.book_layout.proofs.Stands.{Stands, stands-fits, stands-word, stands-first}
 use Rattle.book_growth.specs.Growth.{added}
@@ -44,12 +44,6 @@ whole-numbers xs = sym (entries-part 0 (whole-stands xs) 0 (entryCount xs) (omeg
 stands-whole : {xs ys : List ℕ} → xs ≡ ys → Stands xs 0 ys
 stands-whole {xs} {ys} e = record { before = []; after = []; is = e ∙ sym (append-nil ys); place = refl }
 
--- ---- what agrees below a number
-children-same : (m : ℕ) (f g : ℕ → RExpr) → ((x : ℕ) → x < m → f x ≡ g x) → {xs : List ℕ} → All (λ x. x < m) xs → toRExprs f xs ≡ toRExprs g xs
-unfolding toRExprs
-children-same m f g h end = refl
-children-same m f g h (more {a = x} l ls) = rw (h x l, children-same m f g h ls)
-
 module _ (b : Book) (d : Draft) (G : Grew b d) where
   pub lists-few : size b lists + length (d .lists) / 4 ≤ 2048
   unfolding added additionFrom countOf
@@ -77,7 +71,7 @@ module _ (b : Book) (d : Draft) (G : Grew b d) where
   -- arguments below the new term
   args-same : (start count : ℕ) → Range (bookWith b d) (size b terms) start count → argsOf (bookWith b d) (term (bookWith b d)) start count ≡ toRExprs (term b) (entries (bookWith b d) start count)
   unfolding argsOf
-  args-same start count r = children-same (size b terms) _ _ (old-term b d G) (entries-each (bookWith b d) (λ x. x < size b terms) start count (r .below))
+  args-same start count r = children-agree (size b terms) _ _ (old-term b d G) (entries-each (bookWith b d) (λ x. x < size b terms) start count (r .below))
 
   pattern-same : (p : ℕ) → GoodPattern (bookWith b d) (size b terms) p → patternOf (bookWith b d) (term (bookWith b d)) p ≡ patternOf b (term b) p
   unfolding patternOf
