@@ -1,7 +1,7 @@
 // RSolver.dfy: RContextNode, by its number in the book.
 ghost use mathlib.Core.Path.{_≡_};
 ghost use Prim.Native.Nat.{_≤_};
-ghost use Rattle.contexts.specs.Path.{IsNode, IsBelow, IsParent, IsPath, IsMove, popsOf};
+ghost use Rattle.contexts.specs.Path.{IsNode, IsBelow, IsParent, IsPath, IsMove, popsOf, IsApart, oneUp};
 ghost use Rattle.book.specs.Decode.{program};
 use book::format::*;
 
@@ -40,16 +40,44 @@ pub fn path_of(book: &[u8], node: usize) -> Path
     }
 }
 
-// The pops of a move. A parent is smaller than its child, so the larger of two nodes is on the path of the other only if they are one.
+// On the way up from both nodes of a move: where each stands, and the pops so far.
+struct WayUp {
+    old: usize,
+    new: usize,
+    pops: usize,
+}
+
+// One step up from the larger of two nodes. A parent is smaller than its child, so the larger is on the path of the other only if they are one.
+fn step_up(book: &[u8], at: WayUp) -> WayUp
+    requires { ⌜ IsApart (now book) at ⌝ }
+    ensures { λ r. ⌜ r ≡ oneUp (program (now (book .entry))) at ⌝ }
+{
+    if at.new < at.old {
+        return WayUp {
+            old: parent(book, at.old),
+            new: at.new,
+            pops: at.pops + 1,
+        };
+    }
+    WayUp {
+        old: at.old,
+        new: parent(book, at.new),
+        pops: at.pops,
+    }
+}
+
+// The pops of a move: the steps from the old node up to where the two meet.
 pub fn pops(book: &[u8], old: usize, new: usize) -> usize
     requires { ⌜ IsMove (now book) old new ⌝ }
     ensures { λ r. ⌜ (r ≡ popsOf (program (now (book .entry))) old new) × (r ≤ old) ⌝ }
 {
-    if old == new {
-        return 0;
+    let mut at = WayUp {
+        old: old,
+        new: new,
+        pops: 0,
+    };
+    while at.old != at.new {
+        at = step_up(book, at);
     }
-    if new < old {
-        return pops(book, parent(book, old), new) + 1;
-    }
-    pops(book, old, parent(book, new))
+    at.pops
 }

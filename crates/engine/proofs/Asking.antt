@@ -3,8 +3,7 @@ use Prim.Native.Nat.{ℕ, suc, _+_, _<_}
 use mathlib.Core.Path.{_≡_, sym, ap, _∙_}
 use mathlib.Core.List.{List, [], _∷_, _++_, append-assoc}
 use lib.ListN.{length}
-use Rattle.basics.specs.Write.{MOST, Wrote, WroteAt}
-use Rattle.basics.proofs.Laws.{overlay-whole}
+use Rattle.basics.specs.Write.{MOST, WroteAt}
 use Rattle.basics.proofs.Places.{at-as}
 use Rattle.book.specs.Book.{Book}
 use Rattle.book.specs.Program.{path, depth}
@@ -61,6 +60,6 @@ module _ {b : Book} (old new t : ℕ) {ls : List ℕ} {moved r : Progress} {o o1
   pub questioned : length o < MOST + 1 → Reached b old new ls o o1 moved → Asked b new t moved o1 o2 r → Questioned b old new t ls o o2 r
   questioned short m a = record { levels = m .state .levels; missing = a .missing; text = said-then _ _ short (m .text) (a .text) }
 
--- the goal's own levels begin as a copy of the node's
-pub copied : {b : Book} (P : Promise b) (node : ℕ) {ls o inner : List ℕ} {n : ℕ} → ls ≡ stateAt b node .levels → length o ≡ levelCount → Wrote ls o inner n → inner ≡ stateAt b node .levels
-copied {b} P node {ls} {o} e wide w = w .shown ∙ overlay-whole ls o (ap length e ∙ levels-length (program b) (good b P) (path (program b) node) ∙ sym wide) ∙ e
+-- as many levels as a session stores
+pub levels-long : {b : Book} (P : Promise b) (node : ℕ) {ls : List ℕ} → ls ≡ stateAt b node .levels → length ls ≡ levelCount
+levels-long {b} P node e = ap length e ∙ levels-length (program b) (good b P) (path (program b) node)

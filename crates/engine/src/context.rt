@@ -11,6 +11,7 @@ use super::enter::descend;
 use contexts::path_of;
 use contexts::pops;
 use levels::Progress;
+use session_levels::Level;
 use session_levels::clear_above;
 use smt_engines::pop;
 
@@ -39,7 +40,7 @@ pub fn set_context(
     book: &[u8],
     old: usize,
     new: usize,
-    levels: &mut [u8],
+    levels: &mut [Level],
     out: &mut [u8],
 ) -> Progress
     requires { ⌜ Standing (now book) old new (now levels) ⌝ }

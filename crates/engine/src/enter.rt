@@ -6,6 +6,7 @@ use book::format::CONTEXTS;
 use contexts::path_of;
 use levels::Progress;
 use levels::declared_count;
+use session_levels::Level;
 use smt_engines::assume;
 use smt_engines::push;
 use walk::declare_new_symbols;
@@ -14,8 +15,8 @@ use walk::declare_new_symbols;
 fn enter(
     book: &[u8],
     node: usize,
-    level: u8,
-    levels: &mut [u8],
+    level: Level,
+    levels: &mut [Level],
     so: Progress,
     out: &mut [u8],
 ) -> Progress
@@ -46,7 +47,7 @@ pub fn descend(
     book: &[u8],
     node: usize,
     count: usize,
-    levels: &mut [u8],
+    levels: &mut [Level],
     so: Progress,
     out: &mut [u8],
 ) -> Progress
@@ -60,7 +61,7 @@ pub fn descend(
     let mut k = count;
     while 0 < k {
         k -= 1;
-        let level = (depth - k) as u8;
+        let level = (depth - k) as Level;
         done = enter(book, nodes[k], level, levels, done, out);
     }
     done

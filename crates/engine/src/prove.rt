@@ -2,10 +2,10 @@
 ghost use Rattle.engine.specs.Engine.{Asking, Asked, Questioning, Questioned};
 use super::context::depth_of;
 use super::context::set_context;
-use basics::put_all;
 use levels::Progress;
 use levels::declared_count;
-use session_levels::blank;
+use session_levels::Level;
+use session_levels::copy;
 use smt_engines::assume_not;
 use smt_engines::check_sat;
 use smt_engines::push;
@@ -16,8 +16,8 @@ fn ask_goal(
     book: &[u8],
     node: usize,
     goal: usize,
-    level: u8,
-    levels: &mut [u8],
+    level: Level,
+    levels: &mut [Level],
     so: Progress,
     out: &mut [u8],
 ) -> Progress
@@ -50,7 +50,7 @@ pub fn question(
     old: usize,
     new: usize,
     goal: usize,
-    levels: &mut [u8],
+    levels: &mut [Level],
     out: &mut [u8],
 ) -> Progress
     requires { ⌜ Questioning (now book) old new goal (now levels) ⌝ }
@@ -58,7 +58,6 @@ pub fn question(
 {
     let moved = set_context(book, old, new, levels, out);
     let level = depth_of(book, new) + 1;
-    let mut inner = blank();
-    put_all(levels, &mut inner);
-    ask_goal(book, new, goal, level as u8, &mut inner, moved, out)
+    let mut inner = copy(levels);
+    ask_goal(book, new, goal, level as Level, &mut inner, moved, out)
 }

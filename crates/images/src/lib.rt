@@ -7,6 +7,7 @@ ghost use Rattle.solvers.specs.Image.{imageSize, headSize, owedNumber, owedOf, 
 use basics::put_at;
 use basics::put_word;
 use session_levels::LEVEL_COUNT;
+use session_levels::Level;
 use solvers::Owed;
 use solvers::Session;
 
@@ -89,7 +90,7 @@ fn no_session() -> Session
     }
 }
 
-fn levels_of(image: &[u8]) -> [u8; LEVEL_COUNT]
+fn levels_of(image: &[u8]) -> [Level; LEVEL_COUNT]
     requires { ⌜ length (now image) ≡ imageSize ⌝ }
     ensures { λ r. ⌜ r ≡ drop headSize (now (image .entry)) ⌝ }
 {

@@ -8,6 +8,7 @@ pub use session_levels::AXIOM_PLACES;
 pub use session_levels::CONSTANT_PLACES;
 pub use session_levels::FUNCTION_PLACES;
 pub use session_levels::LITERAL_PLACES;
+pub use session_levels::Level;
 pub use types::declare_constant;
 pub use types::declare_constant_types;
 pub use types::declare_function;

@@ -4,9 +4,10 @@ ghost use Prim.Native.Nat.{_<_};
 ghost use lib.ListN.{length};
 ghost use Rattle.rsolver.specs.LevelState.{joinAt, count};
 ghost use Rattle.levels.specs.Marks.{declared};
+use session_levels::Level;
 
 // Declares the record at a place. What is declared keeps its level.
-pub fn mark(k: usize, level: u8, levels: &mut [u8])
+pub fn mark(k: usize, level: Level, levels: &mut [Level])
     requires { ⌜ k < length (now levels) ⌝ }
     ensures { λ _. ⌜ now (levels .exit) ≡ joinAt (now (levels .entry)) k level ⌝ }
 {
@@ -16,14 +17,14 @@ pub fn mark(k: usize, level: u8, levels: &mut [u8])
 }
 
 // 1 for a level, 0 for none.
-fn declared(level: u8) -> usize
+fn declared(level: Level) -> usize
     ensures { λ r. ⌜ r ≡ declared level ⌝ }
 {
     if level == 0 { 0 } else { 1 }
 }
 
 // How many records are declared.
-pub fn declared_count(levels: &[u8]) -> usize
+pub fn declared_count(levels: &[Level]) -> usize
     ensures { λ r. ⌜ r ≡ count (now (levels .entry)) ⌝ }
 {
     let mut n = 0;

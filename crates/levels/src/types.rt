@@ -10,13 +10,14 @@ use super::Progress;
 use super::marks::mark;
 use book::field;
 use book::format::*;
+use session_levels::Level;
 
 // User type k.
 fn declare_type(
     book: &[u8],
     k: usize,
-    level: u8,
-    levels: &mut [u8],
+    level: Level,
+    levels: &mut [Level],
     so: Progress,
     out: &mut [u8],
 ) -> Progress
@@ -41,8 +42,8 @@ fn declare_type(
 pub fn declare_new_types(
     book: &[u8],
     typ: usize,
-    level: u8,
-    levels: &mut [u8],
+    level: Level,
+    levels: &mut [Level],
     so: Progress,
     out: &mut [u8],
 ) -> Progress
@@ -60,8 +61,8 @@ fn declare_types(
     book: &[u8],
     start: usize,
     count: usize,
-    level: u8,
-    levels: &mut [u8],
+    level: Level,
+    levels: &mut [Level],
     so: Progress,
     out: &mut [u8],
 ) -> Progress
@@ -83,8 +84,8 @@ pub fn declare_constant_types(
     book: &[u8],
     start: usize,
     count: usize,
-    level: u8,
-    levels: &mut [u8],
+    level: Level,
+    levels: &mut [Level],
     so: Progress,
     out: &mut [u8],
 ) -> Progress
@@ -106,8 +107,8 @@ pub fn declare_constant_types(
 pub fn declare_constant(
     book: &[u8],
     k: usize,
-    level: u8,
-    levels: &mut [u8],
+    level: Level,
+    levels: &mut [Level],
     so: Progress,
     out: &mut [u8],
 ) -> Progress
@@ -130,8 +131,8 @@ pub fn declare_constant(
 pub fn declare_function(
     book: &[u8],
     k: usize,
-    level: u8,
-    levels: &mut [u8],
+    level: Level,
+    levels: &mut [Level],
     so: Progress,
     out: &mut [u8],
 ) -> Progress

@@ -16,6 +16,7 @@ use book::count;
 use book::field;
 use book::format::*;
 use levels::LITERAL_PLACES;
+use levels::Level;
 use literal_names::Sought;
 use literal_names::agrees;
 
@@ -37,7 +38,7 @@ fn literals_at(book: &[u8], k: usize) -> usize
 }
 
 // The level is looked at before the record: where nobody reads the count, the compiler leaves out the records of what is not declared.
-fn look(book: &[u8], k: usize, sought: Sought, s: &[u8], typ: &[u8], levels: &[u8]) -> Seen
+fn look(book: &[u8], k: usize, sought: Sought, s: &[u8], typ: &[u8], levels: &[Level]) -> Seen
     requires { ⌜ Promise (now book) × (k < size (now book) terms) × Seeks (now book) sought (now s) (now typ) × (length (now levels) ≡ levelCount) ⌝ }
     ensures { λ r. ⌜ (r .literals ≡ literalCount (literalAt (now (book .entry)) k ∷ [])) × (r .here ≡ declaresName (now (book .entry)) (barred (now (s .entry)) (now (typ .entry))) (now (levels .entry)) k) ⌝ }
 {
@@ -62,7 +63,7 @@ fn look(book: &[u8], k: usize, sought: Sought, s: &[u8], typ: &[u8], levels: &[u
 }
 
 // Finds a declared literal by its name's text.
-pub fn find_literal(book: &[u8], sought: Sought, s: &[u8], typ: &[u8], levels: &[u8]) -> Search
+pub fn find_literal(book: &[u8], sought: Sought, s: &[u8], typ: &[u8], levels: &[Level]) -> Search
     requires { ⌜ Promise (now book) × Seeks (now book) sought (now s) (now typ) × (length (now levels) ≡ levelCount) ⌝ }
     ensures { λ r. ⌜ searchValue r ≡ search (barred (now (s .entry)) (now (typ .entry))) (program (now (book .entry)) .literals) (drop literalPlaces (now (levels .entry))) ⌝ }
 {

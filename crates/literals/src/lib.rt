@@ -16,6 +16,7 @@ use book::field;
 use book::format::*;
 use finding::find_literal;
 use levels::LITERAL_PLACES;
+use levels::Level;
 use levels::Progress;
 use levels::declare_new_types;
 use levels::mark;
@@ -48,7 +49,7 @@ fn is_found(r: Search) -> bool
 }
 
 // The name is declared. The search has one caller, in which the compiler sees that its count is not read.
-fn is_declared(book: &[u8], sought: Sought, s: &[u8], typ: &[u8], levels: &[u8]) -> bool
+fn is_declared(book: &[u8], sought: Sought, s: &[u8], typ: &[u8], levels: &[Level]) -> bool
     requires { ⌜ Promise (now book) × Seeks (now book) sought (now s) (now typ) × (length (now levels) ≡ levelCount) ⌝ }
     ensures { λ r. ⌜ r ≡ nameIn (barred (now (s .entry)) (now (typ .entry))) (program (now (book .entry)) .literals) (drop literalPlaces (now (levels .entry))) ⌝ }
 {
@@ -56,7 +57,7 @@ fn is_declared(book: &[u8], sought: Sought, s: &[u8], typ: &[u8], levels: &[u8])
 }
 
 // The name of the literal that term t is, is declared.
-fn is_named(book: &[u8], t: usize, levels: &[u8]) -> bool
+fn is_named(book: &[u8], t: usize, levels: &[Level]) -> bool
     requires { ⌜ Promise (now book) × (t < size (now book) terms) × GoodLiteral (now book) t × (length (now levels) ≡ levelCount) ⌝ }
     ensures { λ r. ⌜ r ≡ nameIn (literalName (literalOf (now (book .entry)) t)) (program (now (book .entry)) .literals) (drop literalPlaces (now (levels .entry))) ⌝ }
 {
@@ -92,8 +93,8 @@ fn is_tag(book: &[u8], t: usize) -> bool
 fn send_literal(
     book: &[u8],
     t: usize,
-    level: u8,
-    levels: &mut [u8],
+    level: Level,
+    levels: &mut [Level],
     so: Progress,
     out: &mut [u8],
 ) -> Progress
@@ -116,8 +117,8 @@ fn send_literal(
 pub fn declare_literal(
     book: &[u8],
     t: usize,
-    level: u8,
-    levels: &mut [u8],
+    level: Level,
+    levels: &mut [Level],
     so: Progress,
     out: &mut [u8],
 ) -> Progress

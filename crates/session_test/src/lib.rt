@@ -4,12 +4,13 @@ ghost use Rattle.basics.specs.Text.{same};
 ghost use Rattle.book.specs.Decode.{program};
 ghost use Rattle.book_test.specs.Promise.{Promise};
 ghost use Rattle.solvers.specs.Calls.{goalFits, isSession};
-use basics::same;
 use book::count;
 use book::format::CONTEXTS;
 use book::format::TERMS;
 use engine::set_context;
+use session_levels::Level;
 use session_levels::blank;
+use session_levels::same;
 use solvers::Owed;
 use solvers::Session;
 
@@ -30,7 +31,7 @@ fn goal_fits(owed: Owed, goal: usize, terms: usize) -> bool
 }
 
 // In a function of its own, since behind a branch the length of a struct's array is not known.
-fn same_levels(s: Session, levels: &[u8]) -> bool
+fn same_levels(s: Session, levels: &[Level]) -> bool
     ensures { λ r. ⌜ r ≡ same (s .levels) (now (levels .entry)) ⌝ }
 {
     let stored = s.levels;

@@ -3,6 +3,7 @@ ghost use mathlib.Core.Path.{_≡_};
 ghost use Rattle.solvers.specs.Session.{freshSession};
 use book::Refusal;
 use session_levels::LEVEL_COUNT;
+use session_levels::Level;
 
 // What an open question waits for.
 pub enum Owed {
@@ -16,7 +17,7 @@ pub struct Session {
     pub node: u32,
     pub goal: u32,
     pub owed: Owed,
-    pub levels: [u8; LEVEL_COUNT],
+    pub levels: [Level; LEVEL_COUNT],
 }
 
 // The answer of move, ask, reply and model: the text's length, and with a reason the reason's too.

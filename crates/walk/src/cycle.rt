@@ -20,6 +20,7 @@ use excluded::nothing;
 use excluded::with;
 use levels::AXIOM_PLACES;
 use levels::FUNCTION_PLACES;
+use levels::Level;
 use levels::Progress;
 use levels::declare_function;
 use levels::declared_count;
@@ -32,8 +33,8 @@ fn walk_term(
     book: &[u8],
     t: usize,
     exclude: &[u8; SIZE],
-    level: u8,
-    levels: &mut [u8],
+    level: Level,
+    levels: &mut [Level],
     so: Progress,
     out: &mut [u8],
 ) -> Progress
@@ -95,8 +96,8 @@ fn walk_terms(
     start: usize,
     count: usize,
     exclude: &[u8; SIZE],
-    level: u8,
-    levels: &mut [u8],
+    level: Level,
+    levels: &mut [Level],
     so: Progress,
     out: &mut [u8],
 ) -> Progress
@@ -120,8 +121,8 @@ fn walk_patterns(
     start: usize,
     count: usize,
     exclude: &[u8; SIZE],
-    level: u8,
-    levels: &mut [u8],
+    level: Level,
+    levels: &mut [Level],
     so: Progress,
     out: &mut [u8],
 ) -> Progress
@@ -144,8 +145,8 @@ fn walk_patterns(
 fn walk_operator(
     book: &[u8],
     k: usize,
-    level: u8,
-    levels: &mut [u8],
+    level: Level,
+    levels: &mut [Level],
     so: Progress,
     out: &mut [u8],
 ) -> Progress
@@ -167,8 +168,8 @@ fn walk_axioms(
     book: &[u8],
     start: usize,
     count: usize,
-    level: u8,
-    levels: &mut [u8],
+    level: Level,
+    levels: &mut [Level],
     so: Progress,
     out: &mut [u8],
 ) -> Progress
@@ -189,8 +190,8 @@ fn walk_axioms(
 fn walk_axiom(
     book: &[u8],
     k: usize,
-    level: u8,
-    levels: &mut [u8],
+    level: Level,
+    levels: &mut [Level],
     so: Progress,
     out: &mut [u8],
 ) -> Progress
@@ -221,8 +222,8 @@ fn send_axiom(
     book: &[u8],
     k: usize,
     cond: usize,
-    level: u8,
-    levels: &mut [u8],
+    level: Level,
+    levels: &mut [Level],
     so: Progress,
     out: &mut [u8],
 ) -> Progress
@@ -246,8 +247,8 @@ fn send_axiom(
 pub fn declare_new_symbols(
     book: &[u8],
     t: usize,
-    level: u8,
-    levels: &mut [u8],
+    level: Level,
+    levels: &mut [Level],
     so: Progress,
     out: &mut [u8],
 ) -> Progress

@@ -16,6 +16,7 @@ use excluded::has;
 use excluded::with_constants;
 use levels::CONSTANT_PLACES;
 use levels::FUNCTION_PLACES;
+use levels::Level;
 use levels::Progress;
 use levels::declare_constant;
 use levels::declare_constant_types;
@@ -26,8 +27,8 @@ pub fn declare_id(
     book: &[u8],
     v: usize,
     exclude: &[u8; SIZE],
-    level: u8,
-    levels: &mut [u8],
+    level: Level,
+    levels: &mut [Level],
     so: Progress,
     out: &mut [u8],
 ) -> Progress
@@ -48,8 +49,8 @@ pub fn declare_id(
 pub fn declare_type_of(
     book: &[u8],
     v: usize,
-    level: u8,
-    levels: &mut [u8],
+    level: Level,
+    levels: &mut [Level],
     so: Progress,
     out: &mut [u8],
 ) -> Progress
@@ -64,8 +65,8 @@ pub fn declare_type_of(
 pub fn declare_variables(
     book: &[u8],
     t: usize,
-    level: u8,
-    levels: &mut [u8],
+    level: Level,
+    levels: &mut [Level],
     so: Progress,
     out: &mut [u8],
 ) -> Progress
@@ -88,7 +89,7 @@ pub fn exclude_variables(book: &[u8], t: usize, exclude: &[u8; SIZE]) -> [u8; SI
 }
 
 // All functions that axiom k explains are declared.
-pub fn all_explained(book: &[u8], k: usize, levels: &[u8]) -> bool
+pub fn all_explained(book: &[u8], k: usize, levels: &[Level]) -> bool
     requires { ⌜ Promise (now book) × (k < size (now book) axioms) × (length (now levels) ≡ levelCount) ⌝ }
     ensures { λ r. ⌜ r ≡ allExplained (now (book .entry)) k (now (levels .entry)) ⌝ }
 {

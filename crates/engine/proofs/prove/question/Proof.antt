@@ -1,9 +1,7 @@
 use native.Mathlib.Omega.{arith}
-use mathlib.Core.Path.{_≡_}
-use lib.ListN.{length}
-use Rattle.rsolver.specs.LevelState.{levelCount}
 use Rattle.engine.proofs.Entering.{few-deep}
-use Rattle.engine.proofs.Asking.{questioned, copied}
+use Rattle.engine.proofs.Asking.{questioned, levels-long}
+use mathlib.Core.Path.{_∙_}
 use borrow.Author.Needs.{needs}
 use Rattle.engine.proofs.prove.question.Statement.{statement}
 use Rattle.engine.proofs.prove.question.Tie as tie
@@ -11,14 +9,17 @@ use Rattle.engine.proofs.prove.question.Tie as tie
 add-level : tie.Need-add-level
 add-level c = omega (arith, c .depth-of .ensures, few-deep (c .before .before .before .before .before .before .before .before .before .before .before .pre .promise) _ (c .before .before .before .before .before .before .before .before .before .before .before .pre .to))
 
+copy-requires : tie.Need-copy-requires
+copy-requires c κs = levels-long (c .before .before .before .before .before .before .before .before .before .before .before .before .pre .promise) _ (c .before .before .before .before .before .before .set-context .ensures .state .levels)
+
 cast-ask-goal : tie.Need-cast-ask-goal
-cast-ask-goal c = omega (arith, c .before .before .before .before .before .depth-of .ensures, few-deep (c .before .before .before .before .before .before .before .before .before .before .before .before .before .before .before .before .pre .promise) _ (c .before .before .before .before .before .before .before .before .before .before .before .before .before .before .before .before .pre .to))
+cast-ask-goal c = omega (arith, c .before .before .depth-of .ensures, few-deep (c .before .before .before .before .before .before .before .before .before .before .before .before .before .pre .promise) _ (c .before .before .before .before .before .before .before .before .before .before .before .before .before .pre .to))
 
 ask-goal-requires : tie.Need-ask-goal-requires
-ask-goal-requires c κs = let wide : length (c .before .before .before .before .before .before .blank .result) ≡ levelCount = search needs in record { promise = c .before .before .before .before .before .before .before .before .before .before .before .before .before .before .before .before .before .before .pre .promise; inside = c .before .before .before .before .before .before .before .before .before .before .before .before .before .before .before .before .before .before .pre .to; goal = c .before .before .before .before .before .before .before .before .before .before .before .before .before .before .before .before .before .before .pre .goal; level = omega (arith, c .before .before .before .before .before .before .before .depth-of .ensures, few-deep (c .before .before .before .before .before .before .before .before .before .before .before .before .before .before .before .before .before .before .pre .promise) _ (c .before .before .before .before .before .before .before .before .before .before .before .before .before .before .before .before .before .before .pre .to)); state = record { levels = copied (c .before .before .before .before .before .before .before .before .before .before .before .before .before .before .before .before .before .before .pre .promise) _ (c .before .before .before .before .before .before .before .before .before .before .before .before .set-context .ensures .state .levels) wide (c .before .before .before .put-all .ensures); missing = c .before .before .before .before .before .before .before .before .before .before .before .before .set-context .ensures .state .missing } }
+ask-goal-requires c κs = record { promise = c .before .before .before .before .before .before .before .before .before .before .before .before .before .before .before .pre .promise; inside = c .before .before .before .before .before .before .before .before .before .before .before .before .before .before .before .pre .to; goal = c .before .before .before .before .before .before .before .before .before .before .before .before .before .before .before .pre .goal; level = omega (arith, c .before .before .before .before .depth-of .ensures, few-deep (c .before .before .before .before .before .before .before .before .before .before .before .before .before .before .before .pre .promise) _ (c .before .before .before .before .before .before .before .before .before .before .before .before .before .before .before .pre .to)); state = record { levels = c .before .before .copy .ensures ∙ c .before .before .before .before .before .before .before .before .before .set-context .ensures .state .levels; missing = c .before .before .before .before .before .before .before .before .before .set-context .ensures .state .missing } }
 
 returns : tie.Need-returns
-returns c = questioned _ _ _ (c .before .before .before .before .before .before .before .before .before .before .before .before .before .before .before .before .before .before .before .before .before .before .good .1 .1 .1 .1 .1 .0 .0) (c .before .before .before .before .before .before .before .before .before .before .before .before .before .before .before .before .set-context .ensures) (c .before .before .before .ask-goal .ensures)
+returns c = questioned _ _ _ (c .before .before .before .before .before .before .before .before .before .before .before .before .before .before .before .before .before .before .before .good .1 .1 .1 .1 .1 .0 .0) (c .before .before .before .before .before .before .before .before .before .before .before .before .before .set-context .ensures) (c .before .before .before .ask-goal .ensures)
 
 pub question-spec : {M : Type 1} → statement M
 question-spec =
@@ -27,9 +28,7 @@ question-spec =
     (λ c κs. search needs)
     (λ c κs. search needs)
     add-level
-    (λ c κs. search needs)
-    (λ c. search needs)
-    (λ c κs. search needs)
+    copy-requires
     cast-ask-goal
     (λ c. search needs)
     ask-goal-requires
