@@ -89,4 +89,4 @@ noTerm = 0xFFFFFFFF
 
 -- a node's depth is at most this
 abbrev pub depthMost : ℕ
-depthMost = 64
+depthMost = 400

@@ -1,7 +1,7 @@
--- Document 01's number of each refusal.
+-- The number of each refusal in documents 01 and 02.
 use Prim.Native.Nat.{ℕ}
 use Rattle.book.specs.declared.Refusal.{Refusal}
-use Rattle.book.specs.declared.Refusal.the-variants.{ShortScratch, BadContents, CountOverLimit, FieldOutOfRange, NoForest, TooDeep, NotInBook, ReplyIsUnsat, MissingAxiom, BufferTooShort, NoOperator, NoSession, QuestionOpen, NoReplyOwed, NoModelOwed}
+use Rattle.book.specs.declared.Refusal.the-variants.{ShortScratch, BadContents, CountOverLimit, FieldOutOfRange, NoForest, TooDeep, NotInBook, ReplyIsUnsat, MissingAxiom, BufferTooShort, NoOperator, NoSession, QuestionOpen, NoReplyOwed, NoModelOwed, TooDeepForNarrow}
 
 unfoldable pub number : Refusal → ℕ
 number ShortScratch = 1
@@ -19,3 +19,4 @@ number NoSession = 20
 number QuestionOpen = 21
 number NoReplyOwed = 22
 number NoModelOwed = 23
+number TooDeepForNarrow = 24

@@ -48,7 +48,7 @@ pub const CONTEXTS_MOST: usize = 512;
 pub const LISTS_MOST: usize = 2048;
 
 // A node's depth is at most this.
-pub const DEPTH_MOST: usize = 64;
+pub const DEPTH_MOST: usize = 400;
 
 // The size of the table of contents.
 pub const CONTENTS: usize = 80;

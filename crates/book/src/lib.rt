@@ -12,7 +12,7 @@ use format::SIZES;
 
 pub mod format;
 
-// Why a call is refused. Document 01's number of each is in specs/Refusal.antt.
+// Why a call is refused. The number of each is in specs/Refusal.antt.
 pub enum Refusal {
     ShortScratch,
     BadContents,
@@ -29,6 +29,7 @@ pub enum Refusal {
     QuestionOpen,
     NoReplyOwed,
     NoModelOwed,
+    TooDeepForNarrow,
 }
 
 // A number has four bytes, an entry of the table of contents two numbers.

@@ -10,16 +10,16 @@ use book::count;
 use book::field;
 use book::format::*;
 
-// The limit, as a byte.
-const DEEPEST: u8 = DEPTH_MOST as u8;
+// The limit, as the table holds depths.
+const DEEPEST: u16 = DEPTH_MOST as u16;
 
 // The root, and as many nodes as there can be contexts.
 const NODES: usize = CONTEXTS_MOST + 1;
 
-fn no_depths() -> [u8; NODES]
+fn no_depths() -> [u16; NODES]
     ensures { λ r. ⌜ r ≡ replicate (contexts .most + 1) 0 ⌝ }
 {
-    [0u8; NODES]
+    [0u16; NODES]
 }
 
 // A parent is smaller than its node, so its depth is known when the node is reached: one step for each node.

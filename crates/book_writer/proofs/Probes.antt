@@ -15,14 +15,14 @@ use Rattle.book.specs.Program.{depth}
 use Rattle.book.specs.Decode.{program}
 use Rattle.contexts.specs.Path.{IsPath}
 use Rattle.contexts.specs.declared.Path as path-code
-use Rattle.name_search.specs.Probe.{probeName}
+use Rattle.name_search.specs.Probe.{probeName, probeMost}
 use Rattle.name_search.specs.ProbeText.{IsProbeName}
 use Rattle.name_search.specs.declared.probe.ProbeName.{ProbeName}
 use Rattle.book_writer.specs.Growths.{recordTerm, recordTracePoint, outsideAt, probeDraft, draftOf, additionOf, handedRight, numberOf}
 use Rattle.book_writer.specs.Coded.{growBelow, Appends, termOf, probeBy, probeBelow}
 use Rattle.book_writer.specs.declared.Appended.{Appended}
 
-pub probe-short : {d : ℕ} {r : ProbeName} → IsProbeName d r → length (take (r .length) (r .text)) ≤ 8
+pub probe-short : {d : ℕ} {r : ProbeName} → IsProbeName d r → length (take (r .length) (r .text)) ≤ probeMost
 probe-short {d} {r} h = omega (arith, length-take-le (r .length) (r .text) (h .within), h .short)
 
 -- a path's length is its node's depth

@@ -3,6 +3,8 @@ use Prim.Native.Nat.{ℕ, suc, _-_, _≤_, _<_}
 use native.Mathlib.Omega.{arith}
 use mathlib.Core.Path.{_≡_, sym, ap, _∙_}
 use mathlib.Core.List.{List, [], _∷_, _++_}
+use mir.Syntax.{w64}
+use mir.Val.{Fits}
 use lib.ListN.{length, getD, take, drop, drop-of-length-le, length-take}
 use lib.Seq.{drop-cons, getD-take}
 use Rattle.basics.specs.Text.{Text}
@@ -37,6 +39,10 @@ module _ (nodes : List ℕ) (whole : ℕ) (long : length nodes ≡ depthMost) (f
         let e : getD (path (program b) node) i 0 ≡ getD nodes i 0 = ap (λ (ns : List ℕ). getD ns i 0) (sym is) ∙ getD-take whole nodes i 0 h in
         let r = rw e at (all-at (path-below (program b) (parent-below b P) node) i 0 l) in
         record { promise = P; inside = omega (arith, r .1, inside); below = r .0 }
+
+    -- its number, read from two bytes
+    pub node-fits : (i : ℕ) → i < whole → Fits w64 (getD nodes i 0)
+    node-fits i h = omega (arith, node-below i h .inside, P .contexts-laid .few)
 
     -- all lines
     pub all-lines : (lines : List ℕ → Text) {depth : ℕ} → depth ≡ 0 → lines (drop depth (take whole nodes)) ≡ lines (path (program b) node)

@@ -5,9 +5,9 @@ ghost use Rattle.contexts.specs.Path.{IsNode, IsBelow, IsParent, IsPath,
 ghost use Rattle.book.specs.Decode.{program};
 use book::format::*;
 
-// A node's path: the node itself, its parent and so on, the root left out.
+// A node's path: the node itself, its parent and so on, the root left out. No number of a node is above CONTEXTS_MOST, so that two bytes hold it.
 pub struct Path {
-    pub nodes: [usize; DEPTH_MOST],
+    pub nodes: [u16; DEPTH_MOST],
     pub depth: usize,
 }
 
@@ -18,7 +18,7 @@ fn parent(book: &[u8], node: usize) -> usize
     book::field(book, CONTEXTS, node - 1, CONTEXT_PARENT)
 }
 
-fn blank() -> [usize; DEPTH_MOST] {
+fn blank() -> [u16; DEPTH_MOST] {
     [0; DEPTH_MOST]
 }
 
@@ -30,7 +30,7 @@ pub fn path_of(book: &[u8], node: usize) -> Path
     let mut depth = 0;
     let mut n = node;
     while 0 < n {
-        nodes[depth] = n;
+        nodes[depth] = n as u16;
         depth += 1;
         n = parent(book, n);
     }

@@ -62,7 +62,7 @@ pub fn descend(
     while 0 < k {
         k -= 1;
         let level = (depth - k) as Level;
-        done = enter(book, nodes[k], level, levels, done, out);
+        done = enter(book, nodes[k] as usize, level, levels, done, out);
     }
     done
 }

@@ -1,7 +1,8 @@
-// RSolver.dfy: SetContext and AdjustContext, and Prove up to the check, at a node of a tested book.
+// RSolver.dfy: SetContext and AdjustContext, and Prove up to the check, at a node of a tested book; and a node's depth.
 mod context;
 mod enter;
 mod prove;
 
+pub use context::depth_of;
 pub use context::set_context;
 pub use prove::question;

@@ -2,28 +2,22 @@
 use Prim.Native.Nat.{ℕ}
 use native.Mathlib.Omega.{arith}
 use mathlib.Core.Path.{_≡_, refl, sym}
-use mathlib.Core.Bool.{Bool, true, false, not, _&&_}
+use mathlib.Core.Bool.{Bool, true, false, not}
 use mathlib.Core.List.{List}
-use lib.Dec.{leb}
 use lib.ListN.{length}
-use borrow.Author.Tests.{leb-true, not-false}
-use Rattle.basics.specs.Text.{same}
+use borrow.Author.Tests.{not-false}
 use Rattle.basics.specs.Outcome.{Outcome, refused, accepted, refuse, _>>_, mapOutcome}
-use Rattle.basics.proofs.Bool.{and-both}
 use Rattle.book.specs.Book.{Book}
 use Rattle.book.specs.Decode.{program}
-use Rattle.book.proofs.Terms.{contexts-length}
 use Rattle.book_test.specs.BookTest.{bookTest, ready}
 use Rattle.book_test.proofs.Outcomes.{passed, both, ready-passed}
 use Rattle.book_test.proofs.Promise.{promise}
-use Rattle.rsolver.specs.LevelState.{levelled, fresh, noLevels}
-use Rattle.rsolver.specs.REngine.{setContext}
-use Rattle.solvers.specs.declared.Owed.the-variants.{Nothing}
 use Rattle.solvers.specs.declared.Session.{Session}
 use Rattle.solvers.specs.Session.{Written}
-use Rattle.solvers.specs.Calls.{goalFits, isSession, moveCall, askCall, replyCall, modelCall, Call, moveTo, askFor, replyWith, modelWith, call}
+use Rattle.solvers.specs.Calls.{isSession, moveCall, askCall, replyCall, modelCall, Call, moveTo, askFor, replyWith, modelWith, call}
 use Rattle.solvers.specs.Left.{Values, values, left, called}
-use Rattle.solvers.specs.Image.{imageSize, noSession, isImage, readImage, calledOnImage}
+use Rattle.solvers.specs.Image.{imageSize, isImage, readImage, calledOnImage}
+use Rattle.solvers.proofs.IsSession.{none}
 use Rattle.images.proofs.Reading.{image-long, read-none}
 
 -- the book passed its test, and the session test 20
@@ -41,19 +35,6 @@ call-tested b s (askFor h n t) e = let r = both (ready (length (h .scratch)) b) 
 call-tested b s (replyWith h ok t) e = let r = both (ready (length (h .scratch)) b) _ e in tested b s _ _ (r .0) (r .1)
 call-tested b s (modelWith h t m) e = let r = both (ready (length (h .scratch)) b) _ e in tested b s _ _ (r .0) (r .1)
 
--- no book has the node of what is no session
-none : (b : Book) → Tested b noSession → ⊥
-unfolding isSession noSession
-none b t =
-    let p = program b in
-    let at = setContext (levelled p) p 0xFFFFFFFF fresh in
-    let here = leb 0xFFFFFFFF (length (p .contexts)) in
-    let r1 = and-both ((here && not (at .missing)) && same noLevels (at .levels)) (goalFits Nothing 0 (length (p .literals))) (t .session) in
-    let r2 = and-both (here && not (at .missing)) (same noLevels (at .levels)) (r1 .0) in
-    let r3 = and-both here (not (at .missing)) (r2 .0) in
-    let l = leb-true 0xFFFFFFFF (length (p .contexts)) (r3 .0) in
-    omega (arith, l, contexts-length b, promise b (t .book) .contexts-laid .few)
-
 was-accepted : (o : Outcome Written) {v : Values} → mapOutcome values o ≡ accepted v → (w : Written) × (o ≡ accepted w)
 unfolding mapOutcome
 was-accepted (refused k) e = let z : _≡_ {A = ℕ} 0 1 = cc in absurd (omega arith)
@@ -67,4 +48,4 @@ accepted-long b image c v e = at (isImage image) refl
     at true h = image-long image h
     at false h =
         let t = call-tested b (readImage image) c (was-accepted (call b (readImage image) c) e .1) in
-        absurd (none b (rw (sym (read-none image h refl)) at t))
+        absurd (none b (promise b (t .book)) (rw (sym (read-none image h refl)) at (t .session)))

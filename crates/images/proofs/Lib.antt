@@ -1,3 +1,4 @@
 mod Stored
+mod LevelLoops
 mod Reading
 pub mod Accepted

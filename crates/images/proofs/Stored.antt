@@ -1,32 +1,28 @@
--- An image that is read, and one that is written.
-use Prim.Native.Nat.{ℕ, _+_, _-_, _<_}
+-- An image that is written: the four words one behind the other, and the levels behind them.
+use Prim.Native.Nat.{ℕ, _+_, _<_}
 use native.Mathlib.Omega.{arith}
-use mathlib.Core.Path.{_≡_, _∙_}
-use mathlib.Core.List.{List}
-use lib.ListN.{length, take, drop, length-drop}
-use lib.Seq.{take-all}
+use mathlib.Core.Path.{_≡_, refl, ap, _∙_}
+use mathlib.Core.List.{List, _++_}
+use lib.ListN.{length, take, drop}
 use Rattle.basics.specs.Bytes.{bytes4}
-use Rattle.basics.specs.Write.{MOST, Wrote, overlayAt, WroteAt}
-use Rattle.basics.proofs.Laws.{overlay-whole}
+use Rattle.basics.specs.Write.{MOST, overlayAt, WroteAt}
+use Rattle.basics.proofs.Laws.{overlay-fits}
 use Rattle.basics.proofs.Places.{at-then}
-use Rattle.rsolver.specs.LevelState.{levelCount}
+use Rattle.solvers.specs.declared.Owed.{Owed}
 use Rattle.solvers.specs.declared.Session.{Session}
-use Rattle.solvers.specs.Image.{imageKind, headSize, imageSize, owedNumber, writeImage}
+use Rattle.solvers.specs.Image.{imageKind, headSize, imageSize, owedNumber, headOf, levelBytes, writeImage}
 
--- what stands behind the head, written into a buffer as long
-pub filled : (image : List ℕ) {o q : List ℕ} {r : ℕ} → Wrote (take (length image - headSize) (drop headSize image)) o q r → length image ≡ imageSize → length o ≡ levelCount
-    → q ≡ drop headSize image
-filled image {o} w long room =
-    let rest : take (length image - headSize) (drop headSize image) ≡ drop headSize image = take-all (length image - headSize) (drop headSize image) (omega (arith, length-drop headSize image)) in
-    w .shown ∙ rw rest (overlay-whole (drop headSize image) o (omega (arith, length-drop headSize image)))
+pub head-put : (kind node goal : ℕ) {owed : ℕ} (o : Owed) {x o1 o2 o3 q : List ℕ} {r1 r2 r3 r : ℕ} → length x < MOST + 1 → owed ≡ owedNumber o
+    → WroteAt (bytes4 kind) 0 x o1 r1 → WroteAt (bytes4 node) r1 o1 o2 r2 → WroteAt (bytes4 goal) r2 o2 o3 r3 → WroteAt (bytes4 owed) r3 o3 q r
+    → WroteAt (headOf kind node goal o) 0 x q r
+unfolding headOf
+head-put kind node goal o short e w1 w2 w3 w4 = at-then short (at-then short (at-then short w1 w2) w3) (rw e at w4)
 
--- the four words one behind the other, and the levels behind them
-pub saved : (s : Session) (x : List ℕ) {o1 o2 o3 o4 q : List ℕ} {r1 r2 r3 r4 r owed : ℕ} → length x ≡ imageSize → length (s .levels) ≡ levelCount → owed ≡ owedNumber (s .owed)
-    → WroteAt (bytes4 imageKind) 0 x o1 r1 → WroteAt (bytes4 (s .node)) r1 o1 o2 r2 → WroteAt (bytes4 (s .goal)) r2 o2 o3 r3
-    → WroteAt (bytes4 owed) r3 o3 o4 r4 → WroteAt (s .levels) r4 o4 q r
-    → q ≡ writeImage s
-unfolding writeImage bytes4 overlayAt
-saved s x long levels owed w1 w2 w3 w4 w5 =
-    let short : length x < MOST + 1 = omega arith in
-    let w = at-then short (at-then short (at-then short (at-then short w1 w2) w3) (rw owed at w4)) w5 in
-    w .shown ∙ overlay-whole (writeImage s) x (omega arith)
+pub saved : (s : Session) (x : List ℕ) {o q : List ℕ} {r : ℕ} → length x ≡ imageSize → WroteAt (headOf imageKind (s .node) (s .goal) (s .owed)) 0 x o r
+    → q ≡ take headSize o ++ levelBytes (s .levels) → q ≡ writeImage s
+unfolding writeImage overlayAt
+saved s x {o} long w e =
+    let head = headOf imageKind (s .node) (s .goal) (s .owed) in
+    let size : length head ≡ headSize = unfold headOf bytes4 in refl in
+    let there : take headSize (head ++ drop (length head) x) ≡ head = unfold headOf bytes4 in refl in
+    e ∙ ap (λ (l : List ℕ). take headSize l ++ levelBytes (s .levels)) (w .shown ∙ overlay-fits head x (omega arith)) ∙ ap (λ (l : List ℕ). l ++ levelBytes (s .levels)) there

@@ -1,19 +1,23 @@
-// The calls move, ask, reply and model, on the byte image of a session.
+// The calls move, ask, reply and model, on the byte image of a session; and its turns to the narrow kind and back.
 ghost use mathlib.Core.Path.{_≡_};
 ghost use mathlib.Core.List.{[]};
 ghost use Rattle.solvers.specs.Calls.{moveTo, askFor, replyWith, modelWith};
 ghost use Rattle.solvers.specs.Left.{answerValue};
 ghost use Rattle.solvers.specs.Image.{calledOnImage};
+ghost use Rattle.solvers.specs.Narrow.{widenedOnImage, narrowedOnImage};
 ghost use Rattle.solvers.specs.Returned.{lent};
 ghost use Rattle.basics.specs.Text.{given};
 ghost use Rattle.image_calls.specs.Stored.{freshImage};
-ghost use Rattle.leskofar.specs.Exports.{flag, answered, freshRefusal};
+ghost use Rattle.leskofar.specs.Exports.{refusalOf, flag, answered, freshRefusal};
 use super::ACCEPTED;
+use super::refusal;
 use image_calls::ask_image;
 use image_calls::fresh_image;
 use image_calls::model_image;
 use image_calls::move_image;
 use image_calls::reply_image;
+use narrow_sessions::narrow_image;
+use narrow_sessions::widen_image;
 use refusal_numbers::number;
 use solvers::Answer;
 
@@ -144,4 +148,32 @@ pub extern "C" fn leskofar_model(
     ensures scratch { λ r. ⌜ now (scratch .exit) ≡ calledOnImage (now (book .entry)) (now (image .entry)) (modelWith (lent (now (scratch .entry)) (now (text .entry)) (now (reason .entry))) (now (reply .entry)) (given (flag came) (now (model .entry)))) .scratch ⌝ }
 {
     answer(model_image(book, scratch, image, reply, came != 0, model, text, reason))
+}
+
+#[no_mangle]
+pub extern "C" fn leskofar_widen(
+    book: &[u8],
+    scratch: &mut [u8],
+    narrow: &[u8],
+    image: &mut [u8],
+) -> u32
+    ensures answer { λ r. ⌜ r ≡ refusalOf (widenedOnImage (now (book .entry)) (now (scratch .entry)) (now (narrow .entry)) (now (image .entry)) .answer) ⌝ }
+    ensures image { λ r. ⌜ now (image .exit) ≡ widenedOnImage (now (book .entry)) (now (scratch .entry)) (now (narrow .entry)) (now (image .entry)) .image ⌝ }
+    ensures scratch { λ r. ⌜ now (scratch .exit) ≡ widenedOnImage (now (book .entry)) (now (scratch .entry)) (now (narrow .entry)) (now (image .entry)) .scratch ⌝ }
+{
+    refusal(widen_image(book, scratch, narrow, image))
+}
+
+#[no_mangle]
+pub extern "C" fn leskofar_narrow(
+    book: &[u8],
+    scratch: &mut [u8],
+    image: &[u8],
+    narrow: &mut [u8],
+) -> u32
+    ensures answer { λ r. ⌜ r ≡ refusalOf (narrowedOnImage (now (book .entry)) (now (scratch .entry)) (now (image .entry)) (now (narrow .entry)) .answer) ⌝ }
+    ensures image { λ r. ⌜ now (narrow .exit) ≡ narrowedOnImage (now (book .entry)) (now (scratch .entry)) (now (image .entry)) (now (narrow .entry)) .image ⌝ }
+    ensures scratch { λ r. ⌜ now (scratch .exit) ≡ narrowedOnImage (now (book .entry)) (now (scratch .entry)) (now (image .entry)) (now (narrow .entry)) .scratch ⌝ }
+{
+    refusal(narrow_image(book, scratch, image, narrow))
 }

@@ -1,4 +1,4 @@
-// The levels: one byte for each record, 0 for not declared.
+// The levels: one for each record, 0 for not declared.
 ghost use mathlib.Core.Path.{_≡_};
 ghost use Prim.Native.Nat.{_<_};
 ghost use lib.ListN.{length};

@@ -51,7 +51,7 @@ fn print_context(book: &[u8], node: usize, at: usize, out: &mut [u8]) -> usize
     let mut done = at;
     while 0 < depth {
         depth -= 1;
-        done = put_premise(book, nodes[depth], done, out);
+        done = put_premise(book, nodes[depth] as usize, done, out);
     }
     done
 }

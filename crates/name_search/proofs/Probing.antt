@@ -1,5 +1,6 @@
 -- The name of a probe, as it is written and as it is answered.
-use Prim.Native.Nat.{ℕ, _≤_, _<_, _/_}
+use Prim.Native.Nat.{ℕ, zero, suc, _*_, _/_, _^_, _≤_, _<_}
+use native.Mathlib.Numerals.{unary-clauses}
 use native.Mathlib.Omega.{arith}
 use native.Mathlib.Decide.{decLt}
 use mathlib.Core.Path.{_≡_, refl, sym, ap, _∙_}
@@ -20,17 +21,19 @@ pub two-parts : (depth : ℕ) → ascii "probe%" ++ nat2String depth ≡ probeNa
 unfolding probeName
 two-parts depth = refl
 
--- two digits at most
-digits : (n : ℕ) → n < 100 → length (nat2String n) ≤ 2
-digits n h = at (decLt n 10)
+-- as many digits as the power of ten says at most
+digits : (k n : ℕ) → n < 10 ^ suc k → length (nat2String n) ≤ suc k
+digits zero n h = omega (arith, ap length (nat-last n h))
+digits (suc k) n h = at (decLt n 10) (digits k (n / 10))
   where
-    at : Dec (n < 10) → length (nat2String n) ≤ 2
-    at (yes l) = omega (arith, ap length (nat-last n l))
-    at (no l) =
-        omega (arith, simp length-append at (ap length (nat-more n (omega arith))), ap length (nat-last (n / 10) (omega arith)))
+    at : Dec (n < 10) → (n / 10 < 10 ^ suc k → length (nat2String (n / 10)) ≤ suc k) → length (nat2String n) ≤ suc (suc k)
+    at (yes l) up = omega (arith, ap length (nat-last n l))
+    at (no l) up =
+        let e : 10 ^ suc (suc k) ≡ 10 * 10 ^ suc k = simp unary-clauses (omega arith) in
+        omega (arith, simp length-append at (ap length (nat-more n (omega arith))), up (omega (arith, h, e)))
 
 probe-short : (depth : ℕ) → depth ≤ depthMost → length (probeName depth) ≤ probeMost
-probe-short depth h = omega (arith, ap length (sym (two-parts depth)), length-append (ascii "probe%") (nat2String depth), digits depth (omega arith))
+probe-short depth h = omega (arith, ap length (sym (two-parts depth)), length-append (ascii "probe%") (nat2String depth), digits 2 depth (omega arith))
 
 pub probe-told : (depth : ℕ) {o : List ℕ} (r : ProbeName) → depth ≤ depthMost → length o ≡ probeMost → Wrote (probeName depth) o (r .text) (r .length) → IsProbeName depth r
 probe-told depth {o} r h l w =

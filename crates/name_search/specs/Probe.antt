@@ -7,6 +7,6 @@ use Rattle.basics.specs.Basics.{nat2String}
 unfoldable pub probeName : ℕ → Text
 probeName depth = ascii "probe%" ++ nat2String depth
 
--- letters of the longest such name that a book has: the word, and a depth of two digits
+-- letters of the longest such name that a book has: the word, and a depth of three digits
 abbrev pub probeMost : ℕ
-probeMost = 8
+probeMost = 9

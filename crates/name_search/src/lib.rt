@@ -14,6 +14,7 @@ use book::name;
 
 mod probe;
 
+pub use probe::PROBE_MOST;
 pub use probe::ProbeName;
 pub use probe::probe_name;
 

@@ -9,8 +9,8 @@ use basics::put_all;
 use basics::put_u64;
 use basics::sum;
 
-// Letters of the longest such name: the word, and a depth of two digits.
-const PROBE_MOST: usize = 8;
+// Letters of the longest such name: the word, and a depth of three digits.
+pub const PROBE_MOST: usize = 9;
 
 // The name is the first `length` letters of the text.
 pub struct ProbeName {

@@ -11,6 +11,7 @@ use Rattle.basics.specs.Bytes.{bytes4, row, rows}
 use Rattle.basics.specs.Text.{Text}
 use Rattle.basics.specs.Write.{MOST, WroteAt}
 use Rattle.basics.proofs.Places.{at-then, at-none, at-as, at-taken, at-length}
+use Rattle.name_search.specs.Probe.{probeMost}
 use Rattle.new_records.specs.Drafts.{rangeStart, nameRow, nameRows, allLetters}
 use Rattle.new_records.specs.Naming.{equals}
 use Rattle.new_records.specs.NewNames.{optional, newBefore, textIf, rowIf, lengthIf, AreLetters, AreParts}
@@ -41,7 +42,7 @@ length-most false n = omega arith
 
 -- ---- one that is not new, and one that is
 module _ (new : Bool) {n : ℕ} {o : List ℕ} where
-  pub text-skipped : (t : Text) → not new ≡ true → n ≤ 8 → WroteAt (textIf new t) n o o n
+  pub text-skipped : (t : Text) → not new ≡ true → n ≤ probeMost → WroteAt (textIf new t) n o o n
   unfolding textIf
   text-skipped t h low = rw (not-true new h) (at-none n o (omega arith))
 
@@ -59,14 +60,14 @@ module _ (new : Bool) {n : ℕ} {o : List ℕ} where
   row-put behind count start h s w1 w2 short = rw (not-false new h, ← s) (two-fields start count w1 w2 short)
 
 -- ---- the letters in front
-pub letters-are : (P : Text) (p e : Bool) {x o q : List ℕ} {r1 r : ℕ} → WroteAt (textIf p P) 0 x o r1 → WroteAt (textIf e equals) r1 o q r → length P ≤ 8 → length x ≡ 9
+pub letters-are : (P : Text) (p e : Bool) {x o q : List ℕ} {r1 r : ℕ} → WroteAt (textIf p P) 0 x o r1 → WroteAt (textIf e equals) r1 o q r → length P ≤ probeMost → length x ≡ suc probeMost
     → AreLetters P p e (record { bytes = q; probe = r1; length = r })
 unfolding equals
 letters-are P p e {x} {o} {q} {r1} {r} w1 w2 low long =
     let short : length x < MOST + 1 = omega arith in
     let w = at-then short w1 w2 in
     let l : length (textIf p P ++ textIf e equals) ≡ length (textIf p P) + length (textIf e equals) = length-append (textIf p P) (textIf e equals) in
-    let most : length (textIf p P ++ textIf e equals) ≤ 9 = omega (arith, text-most p P, text-most e equals) in
+    let most : length (textIf p P ++ textIf e equals) ≤ suc probeMost = omega (arith, text-most p P, text-most e equals) in
     let whole : r ≡ length (textIf p P ++ textIf e equals) = omega (arith, w .counted) in
     record {
       are = at-taken w (omega arith) whole;

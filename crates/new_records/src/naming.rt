@@ -16,6 +16,7 @@ use basics::put_word;
 use basics::same;
 use book::count;
 use book::format::NAMES;
+use name_search::PROBE_MOST;
 use name_search::find_name;
 
 // A name's number, and whether it is to be appended.
@@ -50,8 +51,8 @@ pub struct Letters {
     pub length: usize,
 }
 
-// `probe%`, two digits and `=`.
-const FRONT: usize = 9;
+// A probe's name and `=`.
+const FRONT: usize = PROBE_MOST + EQUALS_LENGTH;
 
 const THREE_ROWS: usize = 3 * ROW2;
 

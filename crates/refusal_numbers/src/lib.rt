@@ -1,4 +1,4 @@
-// Document 01's number of each refusal, as code.
+// The number of each refusal in documents 01 and 02, as code.
 ghost use mathlib.Core.Path.{_≡_};
 ghost use Rattle.book.specs.Refusal.{number};
 use book::Refusal;
@@ -22,5 +22,6 @@ pub fn number(why: Refusal) -> u32
         Refusal::QuestionOpen => 21,
         Refusal::NoReplyOwed => 22,
         Refusal::NoModelOwed => 23,
+        Refusal::TooDeepForNarrow => 24,
     }
 }

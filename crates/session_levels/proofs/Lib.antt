@@ -1,2 +1,2 @@
 pub mod Clearing
-mod Copying
+pub mod Copying

@@ -8,7 +8,7 @@ ghost use Rattle.rsolver.specs.LevelState.{levelCount, noLevels, forget};
 use book::format::*;
 
 // The type of a stored level.
-pub type Level = u8;
+pub type Level = u16;
 
 // Where the records of each section begin, the types first: as many places as the section's largest count.
 pub const CONSTANT_PLACES: usize = TYPES_MOST;

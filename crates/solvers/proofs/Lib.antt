@@ -17,7 +17,13 @@ pub mod BehindBook
 pub mod BehindProgram
 pub mod BehindLevels
 pub mod BehindBodies
+pub mod LevelBytes
+pub mod Head
 pub mod Image
+pub mod NarrowImage
+pub mod IsSession
+pub mod Turning
+pub mod ImageTurning
 pub mod Taken
 pub mod PlacedBook
 pub mod Bodies

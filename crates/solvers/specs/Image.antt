@@ -1,5 +1,5 @@
 -- The byte image of a session, which the host holds (docs/SESSION.md): four words and the levels.
-use Prim.Native.Nat.{ℕ, _+_}
+use Prim.Native.Nat.{ℕ, _+_, _*_, _/_, _%_}
 use mathlib.Core.List.{List, [], _∷_, _++_}
 use mathlib.Core.Bool.{Bool, true, false, _&&_}
 use lib.Dec.{eqb, ltb}
@@ -16,16 +16,16 @@ use Rattle.solvers.specs.Session.{Written, session}
 use Rattle.solvers.specs.Calls.{Call, hostOf, call}
 use Rattle.solvers.specs.Left.{Values, Left, called}
 
--- the layout: one byte for each level
+-- the layout: two bytes for each level
 abbrev pub imageKind : ℕ
-imageKind = 1
+imageKind = 2
 
 -- kind, node, goal and what is owed
 abbrev pub headSize : ℕ
 headSize = 16
 
 abbrev pub imageSize : ℕ
-imageSize = headSize + levelCount
+imageSize = headSize + 2 * levelCount
 
 unfoldable pub owedNumber : Owed → ℕ
 owedNumber Nothing = 0
@@ -38,19 +38,37 @@ owedValues = Nothing ∷ Reply ∷ Model ∷ []
 unfoldable pub owedOf : ℕ → Owed
 owedOf n = getD owedValues n Nothing
 
+unfoldable pub headOf : (kind node goal : ℕ) → Owed → List ℕ
+headOf kind node goal owed = bytes4 kind ++ bytes4 node ++ bytes4 goal ++ bytes4 (owedNumber owed)
+
+-- the low byte first
+unfoldable pub levelBytes : List ℕ → List ℕ
+levelBytes [] = []
+levelBytes (l ∷ ls) = l % 256 ∷ l / 256 % 256 ∷ levelBytes ls
+
+-- back; a last odd byte is dropped
+unfoldable pub levelsIn : List ℕ → List ℕ
+levelsIn [] = []
+levelsIn (low ∷ []) = []
+levelsIn (low ∷ high ∷ rest) = (low + 256 * high) ∷ levelsIn rest
+
 unfoldable pub writeImage : Session → List ℕ
-writeImage s = bytes4 imageKind ++ bytes4 (s .node) ++ bytes4 (s .goal) ++ bytes4 (owedNumber (s .owed)) ++ s .levels
+writeImage s = headOf imageKind (s .node) (s .goal) (s .owed) ++ levelBytes (s .levels)
 
 -- no book has this node, so that test 20 refuses it
 unfoldable pub noSession : Session
 noSession = session 0xFFFFFFFF 0 Nothing noLevels
 
+-- bytes of this kind and size, with a known number for what is owed
+unfoldable pub isKind : (kind size : ℕ) → List ℕ → Bool
+isKind kind size image = eqb (length image) size && eqb (word image 0) kind && ltb (word image 12) (length owedValues)
+
 unfoldable pub isImage : List ℕ → Bool
-isImage image = eqb (length image) imageSize && eqb (word image 0) imageKind && ltb (word image 12) (length owedValues)
+isImage image = isKind imageKind imageSize image
 
 unfoldable pub readImage : List ℕ → Session
 readImage image =
-    if isImage image then session (word image 4) (word image 8) (owedOf (word image 12)) (drop headSize image) else noSession
+    if isImage image then session (word image 4) (word image 8) (owedOf (word image 12)) (levelsIn (drop headSize image)) else noSession
 
 -- THE CALLS move, ask, reply and model on an image: a refused one leaves its bytes as they are
 unfoldable pub imageAfter : Outcome Values → Session → List ℕ → List ℕ

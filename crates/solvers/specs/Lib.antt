@@ -2,6 +2,7 @@ pub mod Session
 pub mod Calls
 pub mod Left
 pub mod Image
+pub mod Narrow
 pub mod Taken
 pub mod Rule
 pub mod Bodies

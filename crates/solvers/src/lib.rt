@@ -20,6 +20,14 @@ pub struct Session {
     pub levels: [Level; LEVEL_COUNT],
 }
 
+// The narrow kind of a session, with one byte for each level: the two turns take and give it, and no other call.
+pub struct NarrowSession {
+    pub node: u32,
+    pub goal: u32,
+    pub owed: Owed,
+    pub levels: [u8; LEVEL_COUNT],
+}
+
 // The answer of move, ask, reply and model: the text's length, and with a reason the reason's too.
 pub enum Answer {
     Written(usize),

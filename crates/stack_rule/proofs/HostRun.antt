@@ -1,5 +1,5 @@
 -- The host's list of events is the list of events that the stack rule speaks of.
-use Prim.Native.Nat.{ℕ, _+_, _^_, _<_}
+use Prim.Native.Nat.{ℕ}
 use native.Mathlib.Omega.{arith}
 use mathlib.Core.Path.{_≡_, refl, ap, _∙_}
 use mathlib.Core.List.{List, [], _∷_, _++_, append-nil}
@@ -8,25 +8,23 @@ use Rattle.basics.proofs.Laws.{take-overlay}
 use Rattle.basics.specs.Outcome.{Outcome, refused, accepted, mapOutcome}
 use Rattle.basics.specs.Buffer.{overlay, bufferAfter}
 use Rattle.book.specs.Book.{Book}
-use Rattle.book.specs.Decode.{program}
 use Rattle.book_test.specs.BookTest.{bookTest}
 use Rattle.book_test.proofs.Promise.{promise}
 use Rattle.book_writer.proofs.Writing.{took-newest}
 use Rattle.rsolver.specs.LevelState.{levelCount, noLevels}
 use Rattle.rsolver.specs.SolverState.{SolverState, newSolver, bodies}
-use Rattle.solvers.specs.declared.Owed.{Owed}
-use Rattle.solvers.specs.declared.Owed.the-variants.{Nothing, Reply, Model}
+use Rattle.rsolver.proofs.Levels.{within-zeros}
 use Rattle.solvers.specs.Session.{Written, textOf, freshSession}
 use Rattle.solvers.specs.Calls.{Call, hostOf, call}
 use Rattle.solvers.specs.Left.{values, valuesBy, sessionAfter, left, called}
 use Rattle.solvers.specs.Image.{writeImage, imageAfter, calledOnImage}
 use Rattle.solvers.specs.Taken.{textLength, taken}
 use Rattle.solvers.specs.Rule.{Present, sessionAt}
-use Rattle.solvers.proofs.Good.{good}
-use Rattle.solvers.proofs.Questions.{Asks, Fits}
-use Rattle.solvers.proofs.Enough.{levels-length}
+use Rattle.solvers.proofs.Good.{good, term-clean}
+use Rattle.solvers.proofs.Questions.{Fits, is-session}
 use Rattle.solvers.proofs.Taken.{FitsIn, call-fits, by-length}
 use Rattle.solvers.proofs.Image.{Imaged, read-written}
+use Rattle.solvers.proofs.IsSession.{within-small, imaged}
 use Rattle.stack_rule.specs.Events.{Event, calls, writes, Trace, after, happens, runFrom, start, run}
 use Rattle.stack_rule.specs.Bodies.{doEvent}
 use Rattle.stack_rule.specs.HostRun.{HostTrace, hostAfter, hostHappens, hostRunFrom, hostRun}
@@ -56,23 +54,12 @@ step t m c = rw (read-written (t .now) m) (one t c (call (t .book) (t .now) c) (
 
 -- ---- a session that a list of events leaves has an image
 module _ (b : Book) (ok : bookTest b ≡ accepted tt) where
-  goal-small : (w : Present) (o : Owed) → Asks b w o → w .goal < 2 ^ 32
-  goal-small w Nothing a = omega arith
-  goal-small w Reply a = omega (arith, a .0, promise b ok .terms-laid .few)
-  goal-small w Model a = omega (arith, a .0, promise b ok .terms-laid .few)
-
   imaged-at : (w : Present) → Fits b w → Imaged (sessionAt b w)
-  unfolding sessionAt
-  imaged-at w f =
-      record {
-        node = omega (arith, f .inside, promise b ok .contexts-laid .few);
-        goal = goal-small w (w .owed) (f .asks);
-        levels = levels-length (program b) (good b (promise b ok)) _;
-      }
+  imaged-at w f = let P = promise b ok in imaged b P (sessionAt b w) (is-session b (good b P) (term-clean b P) w f)
 
 imaged-fresh : Imaged freshSession
 unfolding freshSession noLevels
-imaged-fresh = record { node = omega arith; goal = omega arith; levels = length-replicate {A = ℕ} levelCount 0 }
+imaged-fresh = record { node = omega arith; goal = omega arith; levels = length-replicate {A = ℕ} levelCount 0; small = within-small (omega arith) (within-zeros levelCount 0) }
 
 sound-imaged : {t : Trace} {u : SolverState} → Sound t u → Imaged (t .now)
 unfolding start

@@ -53,7 +53,7 @@ fn print_trace(book: &[u8], node: usize, out: &mut [u8]) -> usize
     while 0 < depth {
         depth -= 1;
         let k = basics::clip(written, out.len());
-        let line = trace_line(book, nodes[depth], &mut out[k..]);
+        let line = trace_line(book, nodes[depth] as usize, &mut out[k..]);
         written = basics::sum(written, line);
     }
     written

@@ -1,43 +1,27 @@
--- Refusal 6: a node of depth 65 gives 6, so 2 to 5 pass; at depth 64 the test of depths passes. Each read counts its way through the bytes, and this book is the longest that is tested whole.
-use Prim.Native.Nat.{ℕ, zero, suc}
+-- Refusal 6: a chain of 400 contexts passes, and one of 401 gives 6, so 2 to 5 pass. That one of 65 is not too deep is computed as well.
+use native.Mathlib.Omega.{arith}
 use mathlib.Core.Path.{_≡_, refl}
-use mathlib.Core.Bool.{not}
-use mathlib.Core.List.{List, [], _∷_, _++_, map}
-use Rattle.basics.specs.Outcome.{Outcome, refused, accepted, refuse}
-use Rattle.book.specs.Book.{Book}
+use mathlib.Core.Bool.{Bool, true}
+use Rattle.basics.specs.Lists.{allBelow, joinBelow}
+use Rattle.basics.specs.Bytes.{bytes4, row}
+use Rattle.basics.specs.Outcome.{refused, accepted}
+use Rattle.book.specs.Book.{offset, size, field}
+use Rattle.book_depth.specs.Depth.{steps, nodeDepth, isShallow, shallow}
 use Rattle.book_test.specs.BookTest.{bookTest}
-use Rattle.book_depth.specs.Depth.{shallow}
-use Rattle.worked_examples.proofs.Everything.{everything}
-use Rattle.worked_examples.proofs.Books.{books, written}
+use Rattle.book_layout.specs.Layout.{countOf, startOf, entryOf, assembled}
+use Rattle.worked_examples.proofs.Chains.{chainBook, chain-test}
 
--- n nodes in a chain, each with a term of its own: Integer, with its own number
-chain : ℕ → List ℕ
-chain zero = []
-chain (suc n) = chain n ++ (n ∷ n ∷ 0 ∷ [])
+pub deepest : bookTest (chainBook 400) ≡ accepted tt
+deepest = chain-test 400 (omega arith)
 
-integers : ℕ → List ℕ
-integers zero = []
-integers (suc n) = 1 ∷ n ∷ 0 ∷ 0 ∷ 0 ∷ 0 ∷ 0 ∷ integers n
+pub too-deep : bookTest (chainBook 401) ≡ refused 6
+too-deep = chain-test 401 (omega arith)
 
-deep : ℕ → Book
-deep n =
-    written (record {
-      letters = [];
-      names = [];
-      types = [];
-      constants = [];
-      functions = [];
-      axioms = [];
-      patterns = [];
-      terms = integers n;
-      contexts = chain n;
-      lists = [];
-    })
+-- Each read counts its way through the bytes.
+pub computed : Bool
+unfolding allBelow joinBelow bytes4 row offset size field steps nodeDepth isShallow shallow countOf startOf entryOf assembled
+computed = shallow (chainBook 65)
 
-pub table : List (Outcome (Unit {0}) × Outcome (Unit {0}))
-unfolding everything books chain integers deep
-table = (bookTest (deep 65), refused 6) ∷ (refuse 6 (not (shallow (deep 64))), accepted tt) ∷ []
-
-pub depths : map (λ e. e .0) table ≡ map (λ e. e .1) table
-unfolding table
-depths = refl
+pub not-deep : computed ≡ true
+unfolding computed
+not-deep = refl

@@ -34,7 +34,8 @@ use Rattle.solvers.specs.Session.{textOf, freshSession, resume, moved, asked, m
 use Rattle.solvers.specs.Calls.{owes, goalFits, isSession, reasonOf, fitting, moveCall, askCall, replyCall, modelCall, hostOf, call}
 use Rattle.solvers.specs.Left.{answerValue, valuesBy, values, reason, sessionAfter, left, called}
 use Rattle.basics.specs.Bytes.{bytes4, row, rows}
-use Rattle.solvers.specs.Image.{owedNumber, owedOf, writeImage, noSession, isImage, readImage, imageAfter, calledOnImage}
+use Rattle.solvers.specs.Image.{owedNumber, owedOf, headOf, levelBytes, levelsIn, writeImage, noSession, isKind, isImage, readImage, imageAfter, calledOnImage}
+use Rattle.solvers.specs.Narrow.{wideOf, narrowOf, isNarrow, widened, narrowed, writeNarrow, noNarrow, isNarrowImage, readNarrow, answerOf, orElse, widenCall, narrowCall, widenedInto, narrowedInto, widenedOnImage, narrowedOnImage}
 use Rattle.solvers.specs.Rule.{standing, settle, nodeCommands, levelsOf, goalState, goalCommands, denialCommands, goalLevels, levelsFor, entering, moveCommands, questionCommands, present, nextReply, next, nodeLevels, mustLive, sessionAt, replyCommands, said}
 use Rattle.solvers.specs.ByBook.{moveByBook, askByBook, callByBook}
 use Rattle.number_lists.specs.Numbers.{numbers}
@@ -65,8 +66,13 @@ listing = tt
 
 -- the session's calls, lists of events, and the reader of their text
 unfoldable pub calling : Unit {0}
-unfolding textOf freshSession resume moved asked move ask closed isUnsat replied giveReply giveModel owes goalFits isSession reasonOf fitting moveCall askCall replyCall modelCall hostOf call answerValue valuesBy values reason sessionAfter left called bytes4 owedNumber owedOf writeImage noSession isImage readImage imageAfter calledOnImage shared standing settle nodeCommands levelsOf goalState goalCommands denialCommands goalLevels levelsFor entering moveCommands questionCommands present nextReply next nodeLevels mustLive sessionAt replyCommands said after happens runFrom start run straightTo straight moveByBook askByBook callByBook onReply doCall doIfAccepted doEvent doFrom doAll glue cut lines kind join dropped hearKind hear hearAll read
+unfolding textOf freshSession resume moved asked move ask closed isUnsat replied giveReply giveModel owes goalFits isSession reasonOf fitting moveCall askCall replyCall modelCall hostOf call answerValue valuesBy values reason sessionAfter left called bytes4 owedNumber owedOf headOf levelBytes levelsIn writeImage noSession isKind isImage readImage imageAfter calledOnImage shared standing settle nodeCommands levelsOf goalState goalCommands denialCommands goalLevels levelsFor entering moveCommands questionCommands present nextReply next nodeLevels mustLive sessionAt replyCommands said after happens runFrom start run straightTo straight moveByBook askByBook callByBook onReply doCall doIfAccepted doEvent doFrom doAll glue cut lines kind join dropped hearKind hear hearAll read
 calling = tt
+
+-- the turns of a session to the other kind
+unfoldable pub turning : Unit {0}
+unfolding wideOf narrowOf isNarrow widened narrowed writeNarrow noNarrow isNarrowImage readNarrow answerOf orElse widenCall narrowCall widenedInto narrowedInto widenedOnImage narrowedOnImage
+turning = tt
 
 -- the search for a literal
 unfoldable pub searching : Unit {0}
@@ -79,5 +85,5 @@ unfolding numbers couldMove firstFailing allInside nodesIn nodesTested nodesTest
 reaching = tt
 
 unfoldable pub everything : Unit {0}
-unfolding testing printing sending searching listing calling reaching
+unfolding testing printing sending searching listing calling turning reaching
 everything = tt

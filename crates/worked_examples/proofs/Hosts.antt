@@ -79,6 +79,11 @@ unfoldable pub levels : List (ℕ × ℕ) → List ℕ
 levels [] = replicate levelCount 0
 levels (l ∷ ls) = set (levels ls) (l .0) (l .1)
 
+-- levels below 256 as the wide image has them, the low byte first
+unfoldable pub pairs : List ℕ → List ℕ
+pairs [] = []
+pairs (l ∷ ls) = l ∷ 0 ∷ pairs ls
+
 -- a list of calls from a fresh session, on a book that does not grow
 unfoldable pub ran : Book → List Call → Trace
 ran b cs = run b (map calls cs)
@@ -91,5 +96,5 @@ pub data Seen : Type 0 where
   texts : Text → Seen
 
 unfoldable pub hosts : Unit {0}
-unfolding dirty clean blank filled host shows hides writes proves fails refuses levels ran
+unfolding dirty clean blank filled host shows hides writes proves fails refuses levels pairs ran
 hosts = tt

@@ -7,9 +7,11 @@ pub mod Listings
 pub mod Corners
 pub mod Operators
 pub mod Refusals
+pub mod Chains
 pub mod Depths
 pub mod Lists
 pub mod Growths
 pub mod Sessions
+pub mod Turns
 pub mod Searches
 pub mod Nodes

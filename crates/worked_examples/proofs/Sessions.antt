@@ -17,7 +17,7 @@ use Rattle.solvers.specs.Left.{Left, proved, called}
 use Rattle.solvers.specs.Image.{ImageLeft, calledOnImage}
 use Rattle.worked_examples.proofs.Everything.{everything}
 use Rattle.worked_examples.proofs.Books.{books, bytes32, sample, small, none as empty}
-use Rattle.worked_examples.proofs.Hosts.{hosts, clean, blank, host, writes, proves, fails, refuses, levels}
+use Rattle.worked_examples.proofs.Hosts.{hosts, clean, blank, host, writes, proves, fails, refuses, levels, pairs}
 
 -- at node 3 x is declared at level 1, and so it is at node 1
 at : (node goal : ℕ) → Owed → Session
@@ -131,9 +131,9 @@ pub strangers-hold : map (λ e. e .0) strangers ≡ map (λ e. e .1) strangers
 unfolding strangers
 strangers-hold = refl
 
--- ---- THE SAME ON BYTE IMAGES: kind 1, node, goal, what is owed, and the levels
+-- ---- THE SAME ON BYTE IMAGES: kind 2, node, goal, what is owed, and the levels
 image : (kind node goal owed : ℕ) → List ℕ
-image kind node goal owed = bytes32 (kind ∷ node ∷ goal ∷ owed ∷ []) ++ levels ((constantPlaces + 0, 1) ∷ [])
+image kind node goal owed = bytes32 (kind ∷ node ∷ goal ∷ owed ∷ []) ++ pairs (levels ((constantPlaces + 0, 1) ∷ []))
 
 -- the reply unsat to an image
 unsat : List ℕ → ImageLeft
@@ -143,17 +143,24 @@ unsat bytes = calledOnImage sample bytes (replyWith (host 16 0) true (ascii "uns
 stays : ℕ → List ℕ → ImageLeft
 stays n bytes = record { answer = refused n; image = bytes; text = blank 16; reason = []; scratch = clean }
 
+-- the narrow kind, of the same session
+narrow : List ℕ
+narrow = bytes32 (1 ∷ 3 ∷ 18 ∷ 1 ∷ []) ++ levels ((constantPlaces + 0, 1) ∷ [])
+
 pub images : List (ImageLeft × ImageLeft)
-unfolding everything books hosts pops image unsat stays
+unfolding everything books hosts pops image unsat stays narrow
 images =
-    (unsat (image 1 3 18 1), record { answer = accepted (proved 16); image = image 1 3 0 0; text = pops; reason = []; scratch = clean })
-    ∷ (unsat (image 1 3 18 2), stays 22 (image 1 3 18 2))
+    (unsat (image 2 3 18 1), record { answer = accepted (proved 16); image = image 2 3 0 0; text = pops; reason = []; scratch = clean })
+    ∷ (unsat (image 2 3 18 2), stays 22 (image 2 3 18 2))
     -- another kind, a third thing owed, a byte too few or too many, none at all. R 32
-    ∷ (unsat (image 2 3 18 1), stays 20 (image 2 3 18 1))
-    ∷ (unsat (image 1 3 18 3), stays 20 (image 1 3 18 3))
-    ∷ (unsat (take 1615 (image 1 3 18 1)), stays 20 (take 1615 (image 1 3 18 1)))
-    ∷ (unsat (image 1 3 18 1 ++ (0 ∷ [])), stays 20 (image 1 3 18 1 ++ (0 ∷ [])))
+    ∷ (unsat (image 1 3 18 1), stays 20 (image 1 3 18 1))
+    ∷ (unsat (image 3 3 18 1), stays 20 (image 3 3 18 1))
+    ∷ (unsat (image 2 3 18 3), stays 20 (image 2 3 18 3))
+    ∷ (unsat (take 3215 (image 2 3 18 1)), stays 20 (take 3215 (image 2 3 18 1)))
+    ∷ (unsat (image 2 3 18 1 ++ (0 ∷ [])), stays 20 (image 2 3 18 1 ++ (0 ∷ [])))
     ∷ (unsat [], stays 20 [])
+    -- the narrow kind
+    ∷ (unsat narrow, stays 20 narrow)
     ∷ []
 
 pub images-hold : map (λ e. e .0) images ≡ map (λ e. e .1) images

@@ -20,6 +20,9 @@ abbrev μ-loop : tie.MeasureT-loop
 loop-holds : tie.Need-loop-holds Inv-loop μ-loop
 loop-holds c = (search needs, all-none _, root-known _ _ (c .before .no-depths .ensures))
 
+mul-depth : tie.Need-mul-depth Inv-loop μ-loop
+mul-depth c = omega (arith, c .field .ensures .is, c .before .before .before .before .before .before .pre .1 .parent (c .before .before .loop .i) (omega arith))
+
 array-read-depth : tie.Need-array-read-depth Inv-loop μ-loop
 array-read-depth c = omega (arith, c .field .ensures .is, c .before .before .before .before .before .before .pre .1 .parent (c .before .before .loop .i) (omega arith))
 
@@ -63,9 +66,11 @@ shallow-spec =
     (λ c κs. search needs)
     loop-holds
     (λ c κs. search needs)
+    mul-depth
     array-read-depth
     returns
     add-depths
+    (λ c. search needs)
     (λ c. search needs)
     array-write-depths
     (λ c. search needs)

@@ -16,6 +16,9 @@ abbrev μ-loop : tie.MeasureT-loop
 loop-holds : tie.Need-loop-holds Inv-loop μ-loop
 loop-holds c = climbing-start _ (c .before .before .pre .promise) _ (c .before .before .pre .inside) _ (search needs)
 
+cast-nodes : tie.Need-cast-nodes Inv-loop μ-loop
+cast-nodes c = omega (arith, c .before .loop .inv .inside, c .before .before .before .before .pre .promise .contexts-laid .few)
+
 mul-nodes : tie.Need-mul-nodes Inv-loop μ-loop
 mul-nodes c = omega (arith, climbing-room (c .before .before .before .before .pre .promise) (c .loop-test .taken) (c .before .loop .inv))
 
@@ -38,4 +41,4 @@ returns : tie.Need-returns Inv-loop μ-loop
 returns c = record { is = climbing-done (omega (arith, c .loop-test .left)) (c .before .loop .inv); few = omega (arith, c .before .loop .inv .room); within = omega (arith, c .before .loop .inv .room, c .before .loop .inv .long) }
 
 pub path-of-spec : {M : Type 1} → statement M
-path-of-spec = tie.close (tie.spec Inv-loop μ-loop (λ c κs. search needs) loop-holds mul-nodes array-write-nodes add-depth parent-requires loop-less loop-again returns)
+path-of-spec = tie.close (tie.spec Inv-loop μ-loop (λ c κs. search needs) loop-holds cast-nodes mul-nodes array-write-nodes add-depth parent-requires loop-less loop-again returns)

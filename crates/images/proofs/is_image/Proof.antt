@@ -1,17 +1,11 @@
-use native.Mathlib.Omega.{arith}
-use Rattle.images.proofs.Reading.{other-length, other-kind, owed-decides}
+use Rattle.solvers.specs.Image.{isImage}
 use borrow.Author.Needs.{needs}
 use Rattle.images.proofs.is_image.Statement.{statement}
 use Rattle.images.proofs.is_image.Tie as tie
 
 returns : tie.Need-returns
-returns c = other-length _ (c .if1 .taken)
-
-returns-2 : tie.Need-returns-2
-returns-2 c = other-kind _ (c .before .before .if1 .left) (c .before .word .ensures) (λ e. omega (arith, e, c .if2 .taken))
-
-returns-3 : tie.Need-returns-3
-returns-3 c = owed-decides _ (c .before .before .before .if1 .left) (c .before .before .word .ensures) (omega (arith, c .before .if2 .left)) (c .word2 .ensures)
+unfolding isImage
+returns c = c .is-kind .ensures
 
 pub is-image-spec : {M : Type 1} → statement M
-is-image-spec = tie.close (tie.spec returns (λ c κs. search needs) returns-2 (λ c κs. search needs) returns-3)
+is-image-spec = tie.close (tie.spec (λ c κs. search needs) returns)

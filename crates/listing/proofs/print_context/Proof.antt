@@ -3,7 +3,7 @@ use mathlib.Core.Path.{_≡_}
 use lib.ListN.{length}
 use Rattle.basics.proofs.Places.{at-length}
 use Rattle.book.specs.Book.{depthMost}
-use Rattle.contexts.proofs.PathLines.{node-below}
+use Rattle.contexts.proofs.PathLines.{node-below, node-fits}
 use Rattle.listing.proofs.Premises.{Printing, printing-start, printing-more, printing-done}
 use borrow.Author.Needs.{needs}
 use Rattle.listing.proofs.print_context.Statement.{statement}
@@ -23,6 +23,9 @@ mul-put-premise c = omega (arith, c .before .loop .inv .within, c .before .befor
 
 array-read-put-premise : tie.Need-array-read-put-premise Inv-loop μ-loop
 array-read-put-premise c = omega (arith, c .before .loop .inv .within, c .before .before .before .path-of .ensures .few)
+
+cast-put-premise : tie.Need-cast-put-premise Inv-loop μ-loop
+cast-put-premise c = let n : length (c .before .before .before .path-of .result .nodes) ≡ depthMost = search needs in node-fits _ _ n (c .before .before .before .path-of .ensures .few) _ (c .before .before .before .before .before .before .pre .promise) _ (c .before .before .before .before .before .before .pre .inside) (c .before .before .before .path-of .ensures .is) _ (omega (arith, c .before .loop .inv .within))
 
 put-premise-requires : tie.Need-put-premise-requires Inv-loop μ-loop
 put-premise-requires c κs = let n : length (c .before .before .before .before .path-of .result .nodes) ≡ depthMost = search needs in node-below _ _ n (c .before .before .before .before .path-of .ensures .few) _ (c .before .before .before .before .before .before .before .pre .promise) _ (c .before .before .before .before .before .before .before .pre .inside) (c .before .before .before .before .path-of .ensures .is) _ (omega (arith, c .before .before .loop .inv .within))
@@ -47,6 +50,7 @@ print-context-spec =
     (λ c. search needs)
     mul-put-premise
     array-read-put-premise
+    cast-put-premise
     put-premise-requires
     (λ c. search needs)
     loop-again

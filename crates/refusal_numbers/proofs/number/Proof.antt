@@ -63,10 +63,15 @@ returns-15 : tie.Need-returns-15
 unfolding number
 returns-15 c = cc
 
+returns-16 : tie.Need-returns-16
+unfolding number
+returns-16 c = cc
+
 pub number-spec : {M : Type 1} → statement M
 number-spec =
     tie.close
     (tie.spec
+    (λ c. search needs)
     (λ c. search needs)
     (λ c. search needs)
     (λ c. search needs)
@@ -96,4 +101,5 @@ number-spec =
     returns-12
     returns-13
     returns-14
-    returns-15)
+    returns-15
+    returns-16)

@@ -30,7 +30,9 @@ clear-above-spec =
     μ-loop
     loop-holds
     (λ c. search needs)
+    (λ c. search needs)
     (λ c κs. search needs)
+    (λ c. search needs)
     (λ c. search needs)
     (λ c. search needs)
     (λ c. search needs)

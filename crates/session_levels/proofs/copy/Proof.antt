@@ -46,7 +46,9 @@ copy-spec =
     μ-loop
     blank-requires
     loop-holds
+    (λ c. search needs)
     shared-slice-read-copied
+    (λ c. search needs)
     array-write-copied
     add-i
     loop-less

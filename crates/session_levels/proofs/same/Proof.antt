@@ -18,10 +18,10 @@ returns : tie.Need-returns Inv-loop μ-loop
 returns c = same-length _ _ (c .if1 .taken)
 
 returns-2 : tie.Need-returns-2 Inv-loop μ-loop
-returns-2 c = same-byte _ _ _ (c .if2 .taken)
+returns-2 c = same-byte _ _ (c .before .before .before .before .loop .i) (λ e. omega (arith, e, c .if2 .taken))
 
 loop-again : tie.Need-loop-again Inv-loop μ-loop
-loop-again c = (search needs, below-more _ _ (c .before .before .before .before .loop .inv .1) (c .if2 .left))
+loop-again c = (search needs, below-more _ _ (c .before .before .before .before .loop .inv .1) (omega (arith, c .if2 .left)))
 
 returns-3 : tie.Need-returns-3 Inv-loop μ-loop
 returns-3 c = same-bytes _ _ (c .before .loop .i) (c .before .before .if1 .left) (omega arith) (c .before .loop .inv .1)
@@ -33,6 +33,8 @@ same-spec =
     Inv-loop
     μ-loop
     returns
+    (λ c. search needs)
+    (λ c. search needs)
     (λ c. search needs)
     (λ c. search needs)
     (λ c. search needs)

@@ -1,7 +1,7 @@
 use Rattle.book.specs.Book.{depthMost}
 use Rattle.basics.proofs.Laws.{wrote-length}
 use Rattle.traces.proofs.Printing.{Printing, printing-start, printing-more, printing-done}
-use Rattle.contexts.proofs.PathLines.{node-below}
+use Rattle.contexts.proofs.PathLines.{node-below, node-fits}
 use lib.ListN.{length}
 use mathlib.Core.Path.{_≡_}
 use native.Mathlib.Omega.{arith}
@@ -23,6 +23,9 @@ mul-trace-line c = omega (arith, c .before .before .loop .inv .within, c .before
 
 array-read-trace-line : tie.Need-array-read-trace-line Inv-loop μ-loop
 array-read-trace-line c = omega (arith, c .before .before .loop .inv .within, c .before .before .before .before .path-of .ensures .few)
+
+cast-trace-line : tie.Need-cast-trace-line Inv-loop μ-loop
+cast-trace-line c = let n : length (c .before .before .before .before .path-of .result .nodes) ≡ depthMost = search needs in node-fits _ _ n (c .before .before .before .before .path-of .ensures .few) _ (c .before .before .before .before .before .before .before .pre .promise) _ (c .before .before .before .before .before .before .before .pre .inside) (c .before .before .before .before .path-of .ensures .is) _ (omega (arith, c .before .before .loop .inv .within))
 
 trace-line-requires : tie.Need-trace-line-requires Inv-loop μ-loop
 trace-line-requires c κs = let n : length (c .before .before .before .before .before .path-of .result .nodes) ≡ depthMost = search needs in node-below _ _ n (c .before .before .before .before .before .path-of .ensures .few) _ (c .before .before .before .before .before .before .before .before .pre .promise) _ (c .before .before .before .before .before .before .before .before .pre .inside) (c .before .before .before .before .before .path-of .ensures .is) _ (omega (arith, c .before .before .before .loop .inv .within))
@@ -48,6 +51,7 @@ print-trace-spec =
     (λ c κs. search needs)
     mul-trace-line
     array-read-trace-line
+    cast-trace-line
     (λ c. search needs)
     (λ c. search needs)
     (λ c. search needs)

@@ -6,6 +6,7 @@ use lib.ListN.{length}
 use native.Mathlib.Omega.{arith}
 use Rattle.engine.proofs.Descending.{Descending, descending-start, next-above, descending-more, descending-done}
 use Rattle.engine.proofs.Entering.{depth-is}
+use Rattle.contexts.proofs.PathLines.{node-fits}
 use borrow.Author.Needs.{needs}
 use Rattle.engine.proofs.enter.descend.Statement.{statement}
 use Rattle.engine.proofs.enter.descend.Tie as tie
@@ -30,6 +31,9 @@ mul-enter c = let n : length (c .before .before .before .path-of .result .nodes)
 
 array-read-enter : tie.Need-array-read-enter Inv-loop μ-loop
 array-read-enter c = let n : length (c .before .before .before .path-of .result .nodes) ≡ depthMost = search needs in let d = depth-is _ _ _ _ (c .before .before .before .path-of .ensures .is) n (c .before .before .before .path-of .ensures .few) in omega (arith, d, c .before .before .before .before .before .before .before .pre .few, c .before .loop .inv .few, c .before .before .before .path-of .ensures .few)
+
+cast-enter : tie.Need-cast-enter Inv-loop μ-loop
+cast-enter c = let n : length (c .before .before .before .path-of .result .nodes) ≡ depthMost = search needs in let d = depth-is _ _ _ _ (c .before .before .before .path-of .ensures .is) n (c .before .before .before .path-of .ensures .few) in node-fits _ _ n (c .before .before .before .path-of .ensures .few) _ (c .before .before .before .before .before .before .before .pre .promise) _ (c .before .before .before .before .before .before .before .pre .inside) (c .before .before .before .path-of .ensures .is) _ (omega (arith, d, c .before .before .before .before .before .before .before .pre .few, c .before .loop .inv .few, c .before .before .before .path-of .ensures .few))
 
 enter-requires : tie.Need-enter-requires Inv-loop μ-loop
 enter-requires c κs = let n : length (c .before .before .before .before .before .path-of .result .nodes) ≡ depthMost = search needs in let d = depth-is _ _ _ _ (c .before .before .before .before .before .path-of .ensures .is) n (c .before .before .before .before .before .path-of .ensures .few) in next-above _ (c .before .before .before .before .before .before .before .before .before .pre .promise) _ (c .before .before .before .before .before .before .before .before .before .pre .inside) _ (c .before .before .before .before .before .path-of .result .nodes) (c .before .before .before .before .before .path-of .result .depth) (c .before .before .before .before .before .path-of .ensures .is) (c .before .before .before .before .before .before .before .before .before .pre .few) (c .before .before .loop-test .taken) (omega (arith, d, c .before .before .before .before .before .before .before .before .before .pre .few, c .before .before .before .loop .inv .few)) (c .before .before .before .loop .inv) (omega (arith, d, c .before .before .before .before .before .path-of .ensures .few))
@@ -59,6 +63,7 @@ descend-spec =
     cast-level
     mul-enter
     array-read-enter
+    cast-enter
     enter-requires
     (λ c. search needs)
     loop-again

@@ -46,6 +46,7 @@ declared-count-spec =
     Inv-loop
     μ-loop
     loop-holds
+    (λ c. search needs)
     shared-slice-read-declared
     declared-requires
     add-n

@@ -21,4 +21,4 @@ returns-2 : tie.Need-returns-2
 returns-2 c = join-old _ _ _ (c .if1 .left)
 
 pub mark-spec : {M : Type 1} → statement M
-mark-spec = tie.close (tie.spec slice-read-if1 slice-write-levels same-length returns returns-2)
+mark-spec = tie.close (tie.spec (λ c. search needs) slice-read-if1 (λ c. search needs) slice-write-levels same-length returns returns-2)

@@ -34,6 +34,7 @@ pub declare-type-spec : {M : Type 1} → statement M
 declare-type-spec =
     tie.close
     (tie.spec
+    (λ c. search needs)
     slice-read-if1
     mark-requires
     declare-sort-requires

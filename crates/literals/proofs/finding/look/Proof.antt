@@ -2,6 +2,7 @@ use native.Mathlib.Omega.{arith}
 use Rattle.records.proofs.Readers.{reads-term}
 use Rattle.book_test.proofs.TermKinds.{good-literal}
 use Rattle.literals.proofs.Looking.{counts, counts-not, undeclared, no-literal, by-name}
+use borrow.Author.Needs.{needs}
 use Rattle.literals.proofs.finding.look.Statement.{statement}
 use Rattle.literals.proofs.finding.look.Tie as tie
 
@@ -34,6 +35,7 @@ look-spec =
     tie.close
     (tie.spec
     add-if1
+    (λ c. search needs)
     shared-slice-read-if1
     literals-at-requires
     returns

@@ -531,6 +531,7 @@ pub +send-axiom+walk-axiom+walk-axioms+walk-operator+walk-patterns+walk-term+wal
     (walk-axiom-field-requires t)
     (walk-axiom-returns t)
     (walk-axiom-add-if2 t)
+    (λ c. search needs)
     (walk-axiom-slice-read-if2 t)
     (walk-axiom-all-explained-requires t)
     (walk-axiom-send-axiom-requires t)
@@ -561,6 +562,7 @@ pub +send-axiom+walk-axiom+walk-axioms+walk-operator+walk-patterns+walk-term+wal
     (walk-operator-at t)
     walk-operator.Post
     (walk-operator-add-if1 t)
+    (λ c. search needs)
     (walk-operator-slice-read-if1 t)
     (walk-operator-declare-function-requires t)
     (walk-operator-field-requires t)

@@ -4,6 +4,7 @@ use native.Mathlib.Omega.{arith}
 use mathlib.Core.Path.{_≡_}
 use Rattle.records.proofs.Readers.{reads-axiom, reads-list}
 use Rattle.walk.proofs.Explaining.{Explained, explained-none, explained-more, explained-stop, explained-all}
+use borrow.Author.Needs.{needs}
 use Rattle.walk.proofs.leaves.all_explained.Statement.{statement}
 use Rattle.walk.proofs.leaves.all_explained.Tie as tie
 
@@ -65,6 +66,7 @@ all-explained-spec =
     add-field-2
     field-requires-3
     add-if1
+    (λ c. search needs)
     shared-slice-read-if1
     returns
     add-i

@@ -32,6 +32,7 @@ declare-id-spec =
     has-requires
     returns
     add-if2
+    (λ c. search needs)
     slice-read-if2
     declare-constant-requires
     (λ c. search needs)

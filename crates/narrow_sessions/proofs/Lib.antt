@@ -1,0 +1,3 @@
+mod NarrowBytes
+mod Behind
+mod OnImages
