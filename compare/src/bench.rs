@@ -4,6 +4,7 @@ use crate::bench_listing;
 use crate::bench_nodes;
 use crate::bench_sessions;
 use crate::bench_table::{head, row, LONG, SHORT, TERMS};
+use crate::bench_turns;
 use crate::bench_writer;
 use crate::library;
 use crate::made_books::full;
@@ -106,6 +107,7 @@ pub fn run() {
     bench_printing();
     bench_listing::run();
     bench_sessions::run();
+    bench_turns::run();
     bench_nodes::run();
     bench_writer::run();
 }

@@ -2,12 +2,17 @@
 
 use crate::bench_table::{head, row, LONG, SHORT, TERMS};
 use crate::library;
-use crate::made_terms::{deepest_path, flat, nest_of};
+use crate::made_terms::{flat, nest_of, path_of};
+use leskofar_reference::book::Section;
+use leskofar_reference::book_test::MOST_DEPTH;
 use leskofar_reference::maker::Maker;
 
 /// The nests that are listed: one that costs a call for each step, and two
 /// that cost none.
 const NESTS: [&str; 3] = ["first arguments", "quantifier bodies", "only arguments"];
+
+/// Nodes of a path whose terms grow.
+const NODES: usize = 64;
 
 /// The last term as the goal at the last node.
 fn bench_listing(name: &str, m: &Maker) {
@@ -28,9 +33,11 @@ pub fn run() {
             bench_listing(&format!("flat, {name}"), &flat(terms - 1, letters));
         }
         for terms in TERMS {
-            let m = deepest_path(terms, letters);
-            bench_listing(&format!("a path of 64 nodes, {name}"), &m);
+            let m = path_of(NODES, terms, letters);
+            bench_listing(&format!("a path of {NODES} nodes, {name}"), &m);
         }
+        let m = path_of(MOST_DEPTH, Section::Terms.most(), letters);
+        bench_listing(&format!("a path of {MOST_DEPTH} nodes, {name}"), &m);
     }
     for shape in NESTS {
         for terms in TERMS {

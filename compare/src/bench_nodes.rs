@@ -4,9 +4,10 @@
 use crate::library::book_test;
 use crate::nodes_call::bytes;
 use crate::nodes_library::{nodes_test, NodesTested};
-use crate::nodes_trees::{chains, comb, planted, star, MOST_TEETH, SPINE};
+use crate::nodes_trees::{chains, comb, planted, star};
 use crate::session_library::{move_to, Buffers};
 use crate::timing::{fastest, percent, ratio};
+use leskofar_reference::book::Section;
 use leskofar_reference::book_test::{MOST_DEPTH, SCRATCH_SIZE};
 use leskofar_reference::fresh_image;
 use leskofar_reference::maker::Maker;
@@ -14,6 +15,10 @@ use std::hint::black_box;
 
 /// Numbers of a list, up to the most that it may have.
 const NUMBERS: [usize; 4] = [64, 128, 256, 512];
+/// The depth of most trees here.
+const DEPTH: usize = 64;
+/// The depth of two chains that fill a book.
+const HALF: usize = Section::Contexts.most() / 2;
 /// More than any text here has.
 const ROOM: usize = 1 << 16;
 
@@ -69,6 +74,40 @@ fn over_and_over(nodes: impl Iterator<Item = u32> + Clone, numbers: usize) -> Ve
     nodes.cycle().take(numbers).collect()
 }
 
+/// Down all nodes of chains so deep.
+fn bench_chains(depth: usize, nodes: usize) {
+    let m = planted(&chains(nodes, depth), &[]);
+    let in_order: Vec<u32> = (1..=nodes as u32).collect();
+    bench(&format!("chains {depth} deep, downward"), &m, &in_order);
+}
+
+/// From tooth to tooth of a comb that is so deep.
+fn bench_comb(depth: usize, numbers: usize) {
+    let spine = depth - 1;
+    let room = Section::Contexts.most() - spine;
+    let m = planted(&comb(spine, numbers.min(room)), &[]);
+    let teeth = depth as u32..=m.contexts.len() as u32;
+    let list = over_and_over(teeth, numbers);
+    bench(
+        &format!("a comb {depth} deep, from tooth to tooth"),
+        &m,
+        &list,
+    );
+}
+
+/// Between the ends of two chains so deep: nothing is shared from one to the
+/// next.
+fn bench_ends(depth: usize, numbers: usize) {
+    let m = planted(&chains(2 * depth, depth), &[]);
+    let ends = [depth as u32, 2 * depth as u32];
+    let list = over_and_over(ends.into_iter(), numbers);
+    bench(
+        &format!("the ends of two chains {depth} deep in turn"),
+        &m,
+        &list,
+    );
+}
+
 pub fn run() {
     println!();
     println!(
@@ -76,27 +115,22 @@ pub fn run() {
          | ratio to single moves | book test, % |"
     );
     println!("|---|---|---|---|---|---|---|---|");
+    let [fewest, ..] = NUMBERS;
     for numbers in NUMBERS {
-        let m = planted(&chains(numbers), &[]);
-        let in_order: Vec<u32> = (1..=numbers as u32).collect();
-        bench("chains 64 deep, downward", &m, &in_order);
+        bench_chains(DEPTH, numbers);
     }
+    bench_chains(MOST_DEPTH, MOST_DEPTH);
     for numbers in NUMBERS {
-        let m = planted(&comb(numbers.min(MOST_TEETH)), &[]);
-        let teeth = SPINE as u32 + 1..=m.contexts.len() as u32;
-        let list = over_and_over(teeth, numbers);
-        bench("a comb, from tooth to tooth", &m, &list);
+        bench_comb(DEPTH, numbers);
     }
+    bench_comb(MOST_DEPTH, fewest);
     for numbers in NUMBERS {
         let m = planted(&star(numbers), &[]);
         let in_order: Vec<u32> = (1..=numbers as u32).collect();
         bench("a star", &m, &in_order);
     }
-    // Nothing is shared from one to the next.
     for numbers in NUMBERS {
-        let m = planted(&chains(2 * MOST_DEPTH), &[]);
-        let ends = [MOST_DEPTH as u32, 2 * MOST_DEPTH as u32];
-        let list = over_and_over(ends.into_iter(), numbers);
-        bench("the ends of two chains in turn", &m, &list);
+        bench_ends(DEPTH, numbers);
     }
+    bench_ends(HALF, fewest);
 }

@@ -8,15 +8,15 @@ use crate::made_costly::explained_often;
 use crate::made_terms::{flat, nest_of};
 use crate::session_library::{self as library, Answer, Buffers};
 use crate::timing::{fastest, percent, ratio};
-use leskofar_reference::book::INT;
-use leskofar_reference::book_test::SCRATCH_SIZE;
+use leskofar_reference::book::{kind, Section, INT};
+use leskofar_reference::book_test::{MOST_DEPTH, SCRATCH_SIZE};
 use leskofar_reference::fresh_image;
 use leskofar_reference::maker::Maker;
 use leskofar_reference::session as reference;
 use std::hint::black_box;
 
 /// Up to the deepest node.
-const DEPTHS: [usize; 4] = [8, 16, 32, 64];
+const DEPTHS: [usize; 4] = [64, 128, 256, MOST_DEPTH];
 /// Entries of ExplainedBy and Explains, up to as many as a book can have.
 const ENTRIES: [usize; 4] = [256, 512, 1024, 2048];
 /// The names of the arguments of flat terms.
@@ -24,7 +24,7 @@ const LETTERS: usize = 9;
 /// The nest that costs a call for each term.
 const NEST: &str = "bodies before a pattern";
 /// More than any text here has.
-const ROOM: usize = 1 << 24;
+pub const ROOM: usize = 1 << 24;
 
 /// A move, or an ask where there is a goal.
 #[derive(Clone, Copy)]
@@ -121,20 +121,27 @@ pub fn bench(name: &str, size: usize, m: &Maker, travel: Travel) {
     );
 }
 
-/// Nodes below each other, each with a constant of its own, and a sibling of
-/// the last. The last term is a goal.
-fn path(depth: usize) -> Maker {
+/// Nodes below each other, each with a constant of its own as far as there are
+/// so many, and a sibling of the last. The last term is a goal.
+pub fn path(depth: usize) -> Maker {
     let mut m = Maker::default();
-    for node in 0..=depth as u32 {
-        let v = m.constant(&format!("v{node}"), INT);
-        let args = [m.integer(0), m.id(v)];
-        let term = m.built_in("<", &args);
-        // The sibling hangs where the last one does.
-        let above = node.min(depth as u32 - 1);
-        m.context(above, term);
+    let most = Section::Constants.most();
+    for constant in 0..most.min(depth + 1) {
+        m.constant(&format!("v{constant}"), INT);
     }
-    let args = [m.integer(1), m.id(0)];
-    m.built_in("<", &args);
+    let not = m.name("not");
+    let not_of = |m: &mut Maker, constant: usize| {
+        let args = [m.id((constant % most) as u32)];
+        let [start, count] = m.list(&args);
+        m.term(kind::BUILT_IN, [not, start, count])
+    };
+    for node in 0..=depth {
+        let term = not_of(&mut m, node);
+        // The sibling hangs where the last one does.
+        let above = node.min(depth - 1);
+        m.context(above as u32, term);
+    }
+    not_of(&mut m, 0);
     m
 }
 

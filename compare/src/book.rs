@@ -2,13 +2,15 @@
 
 use crate::library;
 use crate::made_books::{
-    chain, each_number_changed, faulty_books, full, good_books, over_the_limits,
+    chain, each_number_changed, faulty_books, full, good_books, over_the_limits, too_deep_at,
 };
 use crate::tally::{Met, Tally};
-use leskofar_reference::book_test::SCRATCH_SIZE;
+use leskofar_reference::book::Section;
+use leskofar_reference::book_test::{MOST_DEPTH, SCRATCH_SIZE};
 use leskofar_reference::damage::damaged;
 use leskofar_reference::random::{Random, HARDLY_EVER, OFTEN};
 use leskofar_reference::random_books::{random_book, Counts};
+use leskofar_reference::refusal::DEPTH;
 
 /// What a scratch holds before the call.
 const FILL: u8 = 0xA5;
@@ -21,6 +23,9 @@ const SIZES: [usize; 6] = [0, 1, 2, 4, 8, 24];
 const LONGER: usize = 4;
 /// Scratches around the least one that is taken, and a longer one.
 const SCRATCHES: [usize; 5] = [0, 1, SCRATCH_SIZE - 1, SCRATCH_SIZE, SCRATCH_SIZE + 77];
+
+/// Depths around the deepest, and around those that were borders before.
+const DEPTHS: [usize; 11] = [63, 64, 65, 66, 255, 256, 257, 399, 400, 401, 512];
 
 fn compare(book: &[u8], scratch: usize, met: &mut Met) -> Result<(), String> {
     let mut theirs = vec![FILL; scratch];
@@ -58,7 +63,7 @@ pub fn run(tally: &mut Tally) {
     tally.group("book test, limits", || {
         let mut met = Met::default();
         compare_all(&over_the_limits(), &mut met)?;
-        for depth in [63, 64, 65, 66] {
+        for depth in DEPTHS {
             compare(&chain(depth).book(), SCRATCH_SIZE, &mut met)?;
         }
         for letter in [0x1F, 0x20, 0x7E, 0x7F] {
@@ -67,6 +72,13 @@ pub fn run(tally: &mut Tally) {
             compare(&m.book(), SCRATCH_SIZE, &mut met)?;
         }
         met.all_of(&[0, 2, 3, 4, 6])
+    });
+    tally.group("book test, a node 401 deep at each place", || {
+        let mut met = Met::default();
+        for node in MOST_DEPTH + 1..=Section::Contexts.most() {
+            compare(&too_deep_at(node).book(), SCRATCH_SIZE, &mut met)?;
+        }
+        met.only(&[DEPTH])
     });
     tally.group("book test, every prefix and some bytes more", || {
         let mut met = Met::default();

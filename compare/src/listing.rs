@@ -9,6 +9,7 @@ use crate::made_rules::missing_axiom;
 use crate::made_terms::borders;
 use crate::printed::{compare, left, rooms_around, told, Left, LONGER, ON_A_BOOK, SHORT_ROOMS};
 use crate::random_inputs::{any_book, any_number, any_term, good_book, scratch_length};
+use crate::session_books::{chain_book, DEEP};
 use crate::shapes::SHAPES;
 use crate::tally::{Met, Tally};
 use leskofar_reference::book_test::{check, MOST_DEPTH, SCRATCH_SIZE};
@@ -187,12 +188,18 @@ fn random_groups(tally: &mut Tally) {
         let mut listed = 0;
         let mut bytes = 0;
         while listed < listings {
-            let book = good_book(&mut random);
+            let book = if random.one_in(DEEP) {
+                chain_book(&mut random, MOST_DEPTH).book()
+            } else {
+                good_book(&mut random)
+            };
             let program = checked(&book)?;
+            let last = program.nodes().len();
             for _ in 0..LISTINGS_OF_A_BOOK.min(program.terms.len()) {
+                let any = random.up_to(last);
                 let call = Listing {
                     book: &book,
-                    node: random.up_to(program.nodes().len()) as u32,
+                    node: random.pick(&[last, any, any, any]) as u32,
                     goal: any_term(&mut random, program.terms.len()),
                 };
                 bytes += call.compare_around(&program, random.below(LONGER), &mut met)?;

@@ -2,7 +2,7 @@
 
 use crate::listing::{checked, compare_each, Listing};
 use crate::made_costly::{longest, overlapping};
-use crate::made_terms::{deepest_path, long_names, nests};
+use crate::made_terms::{long_names, nests, path_of};
 use crate::printed::{rooms_around, LONGEST};
 use crate::tally::{Met, Tally};
 use leskofar_reference::book::Section;
@@ -64,7 +64,10 @@ pub fn run(tally: &mut Tally) {
             compare_last(&m, &mut met).map_err(|difference| format!("{name}: {difference}"))?;
         }
         for letters in SHORT {
-            compare_last(&deepest_path(Section::Terms.most(), letters), &mut met)?;
+            compare_last(
+                &path_of(MOST_DEPTH, Section::Terms.most(), letters),
+                &mut met,
+            )?;
         }
         met.only(&[0, 10])
     });

@@ -17,7 +17,7 @@ use leskofar_reference::book::Book;
 use leskofar_reference::book_test::{check, SCRATCH_SIZE};
 use leskofar_reference::commands::LINE_END;
 use leskofar_reference::damage::damaged;
-use leskofar_reference::image::{Owed, Session, IMAGE_SIZE};
+use leskofar_reference::image::{Kind, Owed, Session, IMAGE_SIZE};
 use leskofar_reference::maker::Maker;
 use leskofar_reference::program::{Program, ROOT};
 use leskofar_reference::random::{Random, AT_TIMES, HARDLY_EVER, OFTEN, RARELY};
@@ -232,7 +232,7 @@ impl List {
     ) -> Result<(), String> {
         let mut image = self.image.clone();
         if random.one_in(OFTEN) {
-            let (manner, changed) = foreign(random, &self.image, other);
+            let (manner, changed) = foreign(random, Kind::Wide, &self.image, other);
             seen.images.add(manner);
             image = changed;
         }
@@ -245,7 +245,8 @@ impl List {
         } else {
             SCRATCH_SIZE + random.pick(&LONGER)
         };
-        let owed = Session::read(&image).map_or(Owed::Nothing, |session| session.owed);
+        let session = Session::read(Kind::Wide, &image);
+        let owed = session.map_or(Owed::Nothing, |session| session.owed);
         let call = random_call(random, &self.maker, owed);
         let (text, reason) = measure.lengths(&call, &book, &image);
         let [text, reason] = [text, reason].map(|length| room(random, length));

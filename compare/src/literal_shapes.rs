@@ -2,7 +2,8 @@
 //! that a comparison can tell what it never met. A literal term on the way
 //! that holds no level was found at the term of its name that holds one.
 
-use crate::damaged_images::LITERALS;
+use crate::image_places::{level, LITERALS};
+use leskofar_reference::image::Kind;
 use leskofar_reference::lower::{custom_literal_to_sexpr_name, TAG};
 use leskofar_reference::program::{Program, RExpr, SType};
 use std::collections::{BTreeMap, BTreeSet};
@@ -50,9 +51,9 @@ pub fn visit(program: &Program, node: usize, image: &[u8], see: &mut impl FnMut(
     let walked: BTreeSet<usize> = premises
         .flat_map(|node| literals_of(program, node.expr))
         .collect();
-    let levels = &image[LITERALS];
+    let is_declared = |term: &usize| level(Kind::Wide, image, LITERALS.start + term) != 0;
     let declaring: BTreeMap<Vec<u8>, usize> = (0..program.terms.len())
-        .filter(|term| levels[*term] != 0)
+        .filter(is_declared)
         .filter_map(|term| whole_name(program, term).map(|name| (name, term)))
         .collect();
     let is_literal = |term: &usize| matches!(program.terms[*term], RExpr::CustomLiteral { .. });

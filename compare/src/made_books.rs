@@ -1,6 +1,7 @@
 //! Books at and beside every border of the book test.
 
 use leskofar_reference::book::{Section, CONTENTS_SIZE, NUMBER_SIZE};
+use leskofar_reference::book_test::MOST_DEPTH;
 use leskofar_reference::maker::{sample, small, Maker};
 use leskofar_reference::random::Random;
 use leskofar_reference::random_books::{random_book, Counts};
@@ -89,6 +90,26 @@ pub fn chain(depth: usize) -> Maker {
     m
 }
 
+/// As many nodes as a book can have, all but one at most as deep as they may
+/// be: the node with this number is a level deeper. The others that the chain
+/// down to it does not need hang below the root, before it and behind it.
+pub fn too_deep_at(node: usize) -> Maker {
+    let mut m = Maker::default();
+    let aside = node - MOST_DEPTH - 1;
+    let mut deepest = 0;
+    for number in 1..=Section::Contexts.most() {
+        let term = m.boolean(true);
+        // The chain has a node aside behind each of its first ones.
+        let is_aside = number > node || (number % 2 == 0 && number / 2 <= aside);
+        let parent = if is_aside { 0 } else { deepest };
+        let added = m.context(parent, term);
+        if !is_aside {
+            deepest = added;
+        }
+    }
+    m
+}
+
 /// The book with each of its numbers, contents and fields and list entries,
 /// changed to every number that is a border of something.
 pub fn each_number_changed(m: &Maker, visit: &mut impl FnMut(&[u8])) {
@@ -143,7 +164,7 @@ fn faults() -> [fn(&mut Maker); 4] {
         },
         |m| {
             let mut node = 0;
-            for _ in 0..=64 {
+            for _ in 0..=MOST_DEPTH {
                 let term = m.boolean(true);
                 node = m.context(node, term);
             }

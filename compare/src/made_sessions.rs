@@ -5,26 +5,33 @@ use leskofar_reference::book::{kind, Section, INT};
 use leskofar_reference::book_test::MOST_DEPTH;
 use leskofar_reference::maker::Maker;
 
-/// Nodes as deep as they may be, each with a constant of its own, and a
-/// sibling of the deepest. The last term is a goal with another constant,
-/// which the deepest node's question declares at level 65.
+/// Nodes as deep as they may be, and a sibling of the deepest. Each has a
+/// constant of its own, but for the first ones: there are fewer constants. The
+/// last term is a goal with another constant, which the deepest node's question
+/// declares at level 401.
 pub fn deep() -> Maker {
     let mut m = Maker::default();
+    // The sibling and the goal have one each.
+    let unnamed = MOST_DEPTH + 2 - Section::Constants.most();
     let mut node = 0;
     let mut above = node;
     for depth in 0..MOST_DEPTH {
         above = node;
-        let term = new_constant(&mut m, depth);
+        let term = if depth < unnamed {
+            m.boolean(true)
+        } else {
+            new_constant(&mut m)
+        };
         node = m.context(above, term);
     }
-    let term = new_constant(&mut m, MOST_DEPTH);
+    let term = new_constant(&mut m);
     m.context(above, term);
-    new_constant(&mut m, MOST_DEPTH + 1);
+    new_constant(&mut m);
     m
 }
 
-fn new_constant(m: &mut Maker, number: usize) -> u32 {
-    let v = m.constant(&format!("v{number}"), INT);
+fn new_constant(m: &mut Maker) -> u32 {
+    let v = m.constant(&format!("v{}", m.constants.len()), INT);
     m.id(v)
 }
 

@@ -2,7 +2,6 @@
 //! as a book can.
 
 use leskofar_reference::book::{kind, Section, BOOL, INT};
-use leskofar_reference::book_test::MOST_DEPTH;
 use leskofar_reference::maker::Maker;
 
 const INTEGERS: [i64; 14] = [
@@ -237,13 +236,13 @@ pub fn flat_numbers(arguments: usize, x: i64) -> Maker {
     m
 }
 
-/// Nodes as deep as they can be, each with a flat term, and so many terms in
+/// So many nodes below each other, each with a flat term, and so many terms in
 /// all; the last is the last node's.
-pub fn deepest_path(terms: usize, letters: usize) -> Maker {
+pub fn path_of(nodes: usize, terms: usize, letters: usize) -> Maker {
     let mut m = Maker::default();
     let v = m.constant(&"v".repeat(letters), INT);
-    for node in 0..MOST_DEPTH {
-        let args = ids(&mut m, v, terms / MOST_DEPTH - 1);
+    for node in 0..nodes {
+        let args = ids(&mut m, v, terms / nodes - 1);
         let premise = m.built_in("and", &args);
         m.context(node as u32, premise);
     }

@@ -32,6 +32,9 @@ const MOVED: usize = 4;
 /// ones.
 const AROUND: RangeInclusive<usize> = SCRATCH_SIZE - 4..=SCRATCH_SIZE + 4;
 const OTHERS: [usize; 5] = [0, 1, SCRATCH_SIZE / 2, 2 * SCRATCH_SIZE, 5_000];
+/// Books with more nodes are tried with the first few of these alone.
+const MANY: usize = 64;
+const FEW: usize = 6;
 /// How calls end.
 pub const PASS_OR_FAIL: [Outcome; 3] =
     [Outcome::Passed, Outcome::FailedAtOnce, Outcome::FailedLater];
@@ -133,7 +136,13 @@ fn refusal_groups(tally: &mut Tally) {
         for m in good_books().into_iter().chain(made) {
             let book = &m.book();
             for nodes in &lists(m.contexts.len() as u32) {
-                for scratch in AROUND.chain(OTHERS) {
+                let all = AROUND.chain(OTHERS);
+                let few = if m.contexts.len() > MANY {
+                    FEW
+                } else {
+                    usize::MAX
+                };
+                for scratch in all.take(few) {
                     NodesCall { book, nodes }.compare(scratch, &mut met)?;
                 }
             }

@@ -20,6 +20,8 @@ const LIST_SIZE: usize = MOST_NODES * NUMBER_SIZE;
 const SHORT: usize = 40;
 const NEAR: usize = 9;
 const MUCH_LONGER: [usize; 4] = [2 * LIST_SIZE, 2 * LIST_SIZE + 1, 1 << 16, (1 << 18) + 3];
+/// How many nodes such a number stands beside, at most.
+const BESIDE: usize = 16;
 /// Numbers that are a node in some of their bytes only.
 const IN_PART: [u32; 6] = [1 << 8, 1 << 16, 1 << 24, 1 << 31, 1 + (1 << 24), u32::MAX];
 
@@ -61,11 +63,12 @@ fn length_group(tally: &mut Tally) {
     });
 }
 
-/// A number at every place of short lists; 7 exactly if it is no node.
+/// A number at every place of short lists, beside some nodes; 7 exactly if it
+/// is no node.
 fn compare_number(m: &Maker, number: u32, met: &mut Met<Outcome>) -> Result<(), String> {
     let book = &m.book();
     let last = m.contexts.len() as u32;
-    for node in 0..=last {
+    for node in (0..=last).step_by(m.contexts.len() / BESIDE + 1) {
         for list in [
             &[number][..],
             &[node, number],

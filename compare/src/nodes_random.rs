@@ -142,7 +142,8 @@ pub fn nodes_list(random: &mut Random, nodes: usize) -> Vec<u8> {
     let is_long = random.one_in(LONG);
     let length = random.pick(if is_long { &LONG_LENGTHS[..] } else { &LENGTHS });
     let mut list = Vec::new();
-    let mut at = random.up_to(nodes);
+    let anywhere = random.up_to(nodes);
+    let mut at = random.pick(&[nodes, anywhere, anywhere, anywhere]);
     for _ in 0..length {
         list.push(at as u32);
         let anywhere = random.up_to(nodes);

@@ -4,25 +4,25 @@ use leskofar_reference::book::{kind, Section, INT};
 use leskofar_reference::book_test::MOST_DEPTH;
 use leskofar_reference::maker::Maker;
 
-/// The nodes of a comb's spine, which its teeth hang below.
+/// The nodes of the longest spine of a comb, which its teeth hang below.
 pub const SPINE: usize = MOST_DEPTH - 1;
-/// As many teeth as there can be.
+/// As many teeth as there can be below it.
 pub const MOST_TEETH: usize = Section::Contexts.most() - SPINE;
 
 /// The parent of each node, in their order.
 pub type Parents = Vec<u32>;
 
-/// So many nodes in chains as deep as they may be, one behind the other.
-pub fn chains(nodes: usize) -> Parents {
-    let starts = |node: usize| node.is_multiple_of(MOST_DEPTH);
+/// So many nodes in chains of a depth, one behind the other.
+pub fn chains(nodes: usize, depth: usize) -> Parents {
+    let starts = |node: usize| node.is_multiple_of(depth);
     let parents = (0..nodes).map(|node| if starts(node) { 0 } else { node as u32 });
     parents.collect()
 }
 
-/// A spine, and so many nodes below its end.
-pub fn comb(teeth: usize) -> Parents {
-    let spine = 0..SPINE as u32;
-    spine.chain(vec![SPINE as u32; teeth]).collect()
+/// A spine of so many nodes, and so many below its end.
+pub fn comb(spine: usize, teeth: usize) -> Parents {
+    let end = spine as u32;
+    (0..end).chain(vec![end; teeth]).collect()
 }
 
 /// So many nodes below the root.

@@ -2,6 +2,7 @@
 //! the operators of SMT-LIB's theories with as many arguments as they take,
 //! and negative numbers wherever a number can stand.
 
+use crate::session_books::DEEP;
 use leskofar_reference::book::{kind, Section, BOOL, INT};
 use leskofar_reference::book_test::MOST_DEPTH;
 use leskofar_reference::maker::Maker;
@@ -109,7 +110,7 @@ impl Writer<'_> {
 
     /// A chain that is as deep as it may be, rarely; else a tree.
     fn add_nodes(&mut self) {
-        let is_chain = self.random.one_in(HARDLY_EVER);
+        let is_chain = self.random.one_in(DEEP);
         let nodes = if is_chain {
             MOST_DEPTH
         } else {

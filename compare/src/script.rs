@@ -39,7 +39,7 @@ const NEGATIVES: [usize; 2] = [0, 16];
 const CHECK: &str = "(check-sat)\n";
 /// Beside the refusals' numbers: a stop, and 0 for an output without either.
 const STOP: u32 = 100;
-/// What random books and calls meet; 10 wants a longer text than theirs.
+/// What random books and calls meet always; at times a text is too long.
 const RANDOM: [u32; 9] = [0, 2, 3, 4, 5, 6, 7, 9, STOP];
 
 pub fn input(book: &[u8], calls: &[[u32; 3]]) -> Vec<u8> {
@@ -259,6 +259,6 @@ pub fn run(tally: &mut Tally) {
             }
             compare(&bytes, &mut met)?;
         }
-        met.only(&RANDOM)
+        met.all_of(&RANDOM)
     });
 }

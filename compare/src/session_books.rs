@@ -1,12 +1,12 @@
 //! Random books for sessions, with few symbols, so that what is seldom in
 //! other books is often in these: functions and axioms that explain each
 //! other in cycles, constants that are free here and bound there, literals of
-//! equal text by different splits, equal siblings, nodes 64 deep.
+//! equal text by different splits, equal siblings, nodes as deep as they may be.
 
 use leskofar_reference::book::{kind, Section, BOOL, INT};
 use leskofar_reference::book_test::MOST_DEPTH;
 use leskofar_reference::maker::Maker;
-use leskofar_reference::random::{Random, AT_TIMES, HARDLY_EVER, OFTEN};
+use leskofar_reference::random::{Random, AT_TIMES, OFTEN};
 
 const TYPE_NAMES: [&str; 3] = ["c", "b:c", ""];
 /// Texts of literals, with the name of a type: two names are equal.
@@ -28,12 +28,31 @@ const FEW: usize = 2;
 /// which keeps it within its limits.
 const NESTING: usize = 2;
 const ENOUGH_TERMS: usize = Section::Terms.most() / 2;
-/// Nodes of usual books.
+/// How often a book is a chain as deep as it may be, as `one_in`: these are
+/// long in walking.
+pub const DEEP: usize = 256;
+/// Nodes of the others.
 const NODES: [usize; 6] = [0, 1, 2, 3, 5, 8];
 /// Terms made of the same seed are equal.
 const SEEDS: usize = 3;
 
 pub fn session_book(random: &mut Random) -> Maker {
+    let nodes = if random.one_in(DEEP) {
+        MOST_DEPTH
+    } else {
+        random.pick(&NODES)
+    };
+    let is_chain = nodes == MOST_DEPTH || random.one_in(OFTEN);
+    book_of(random, nodes, is_chain)
+}
+
+/// With a chain of so many nodes.
+pub fn chain_book(random: &mut Random, depth: usize) -> Maker {
+    book_of(random, depth, true)
+}
+
+/// Nodes in a chain or a tree.
+fn book_of(random: &mut Random, nodes: usize, is_chain: bool) -> Maker {
     let mut writer = Writer {
         random,
         maker: Maker::default(),
@@ -43,7 +62,7 @@ pub fn session_book(random: &mut Random) -> Maker {
     };
     writer.add_symbols();
     writer.add_axioms();
-    writer.add_nodes();
+    writer.add_nodes(nodes, is_chain);
     writer.add_goal();
     writer.maker
 }
@@ -101,15 +120,8 @@ impl Writer<'_> {
         }
     }
 
-    /// A chain that is as deep as it may be, rarely; else a chain or a tree.
     /// Then a node more, so that the last one has a sibling at times.
-    fn add_nodes(&mut self) {
-        let nodes = if self.random.one_in(HARDLY_EVER) {
-            MOST_DEPTH
-        } else {
-            self.random.pick(&NODES)
-        };
-        let is_chain = nodes == MOST_DEPTH || self.random.one_in(OFTEN);
+    fn add_nodes(&mut self, nodes: usize, is_chain: bool) {
         for node in 0..nodes as u32 {
             let parent = if is_chain { node } else { self.below(node + 1) };
             self.add_node(parent);

@@ -1,12 +1,12 @@
 //! Session calls on changed images, against the reference.
 
 use crate::calls::{Call, Given, OK};
-use crate::damaged_images::FIELDS;
+use crate::image_places::fields;
 use crate::lists::on_book;
 use crate::seen::Seen;
 use crate::tally::{Met, Tally};
 use leskofar_reference::book_test::SCRATCH_SIZE;
-use leskofar_reference::image::IMAGE_SIZE;
+use leskofar_reference::image::{Kind, IMAGE_SIZE};
 use leskofar_reference::maker::{sample, Maker};
 
 /// More than the sample's texts and reasons have.
@@ -15,7 +15,7 @@ const ROOM: usize = 1 << 10;
 const LONGER: usize = 3;
 
 /// Images of the sample's session that owe nothing, a reply and a model.
-fn sample_images(m: &Maker, goal: u32) -> Result<Vec<Vec<u8>>, String> {
+pub fn sample_images(m: &Maker, goal: u32) -> Result<Vec<Vec<u8>>, String> {
     let mut images = Vec::new();
     on_book(m, |list| {
         for call in [
@@ -59,8 +59,8 @@ pub fn run(tally: &mut Tally) {
     tally.group("session, every byte of an image changed", || {
         let mut met = Met::default();
         for image in sample_images(&sample.maker, sample.goal)? {
-            for (field, places) in FIELDS {
-                for at in places {
+            for (field, bytes) in fields(Kind::Wide) {
+                for at in bytes {
                     let old = image[at];
                     for byte in [0, 1, 2, old.wrapping_add(1), old.wrapping_sub(1), u8::MAX] {
                         let mut changed = image.clone();

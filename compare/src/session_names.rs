@@ -23,7 +23,7 @@ use crate::tally::{Met, Tally};
 use leskofar_reference::book::Section;
 use leskofar_reference::book_test::{check, FIRST_LETTER, LAST_LETTER, SCRATCH_SIZE};
 use leskofar_reference::fresh_image;
-use leskofar_reference::image::Session;
+use leskofar_reference::image::{Kind, Session};
 use leskofar_reference::maker::Maker;
 use leskofar_reference::random::Random;
 use leskofar_reference::refusal::FIELD;
@@ -211,7 +211,7 @@ fn random_list(
     let mut list = List::new(&m)?;
     for _ in 0..=random.below(CALLS) {
         list.random_step(random, other, measure, seen)?;
-        let session = Session::read(list.image()).ok_or("no session")?;
+        let session = Session::read(Kind::Wide, list.image()).ok_or("no session")?;
         let node = session.node as usize;
         visit(&program, node, list.image(), &mut |shape| shapes.add(shape));
     }

@@ -1,9 +1,10 @@
 //! What an accepted move or ask had to deal with, so that a comparison can
 //! tell what it never met. The kinds of the terms are in `shapes`.
 
-use crate::damaged_images::{AXIOMS, FUNCTIONS};
+use crate::image_places::{level, AXIOMS, FUNCTIONS};
 use crate::shapes::visit;
 use leskofar_reference::book_test::MOST_DEPTH;
+use leskofar_reference::image::Kind;
 use leskofar_reference::lower::{custom_literal_to_sexpr_name, to_sexpr, TAG};
 use leskofar_reference::program::{Program, RExpr, ROperator};
 use leskofar_reference::sexpr::SExprPrintConfig;
@@ -54,11 +55,11 @@ impl Travelled<'_, '_> {
             visit(program, term, see);
             names.add(program, term, &mut Vec::new());
         }
-        let image = self.image;
-        let is_declared = |function: &usize| image[FUNCTIONS][*function] != 0;
+        let is_marked = |place: usize| level(Kind::Wide, self.image, place) != 0;
+        let is_declared = |function: &usize| is_marked(FUNCTIONS.start + function);
         let depth = path.len();
         let shapes = [
-            (AXIOM_SENT, image[AXIOMS].iter().any(|level| *level != 0)),
+            (AXIOM_SENT, AXIOMS.into_iter().any(is_marked)),
             (CYCLE, self.cyclic.iter().any(is_declared)),
             (BOUND_AND_FREE, !names.bound.is_disjoint(&names.free)),
             (EQUAL_TEXT, names.has_equal_text),

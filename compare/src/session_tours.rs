@@ -83,7 +83,7 @@ fn rule_groups(tally: &mut Tally) {
 }
 
 fn limit_groups(tally: &mut Tally) {
-    tally.group("session, 64 nodes deep and a goal at level 65", || {
+    tally.group("session, 400 nodes deep and a goal at level 401", || {
         let mut seen = Seen::default();
         tour(&deep(), &mut Measure::new(), &mut seen)?;
         seen.shapes

@@ -11,7 +11,7 @@ use crate::session_shapes::SESSION_SHAPES;
 use crate::shapes::SHAPES;
 use crate::tally::{Met, Tally};
 use leskofar_reference::fresh_image;
-use leskofar_reference::image::IMAGE_SIZE;
+use leskofar_reference::image::{IMAGE_SIZE, NARROW_SIZE};
 use leskofar_reference::maker::{sample, Maker};
 use leskofar_reference::random::{Random, HARDLY_EVER, OFTEN};
 use leskofar_reference::random_books::{random_book, Counts};
@@ -84,7 +84,8 @@ pub fn follow(
 fn made_groups(tally: &mut Tally) {
     tally.group("session, a fresh image", || {
         let mut met = Met::default();
-        for length in [0, 1, IMAGE_SIZE - 1, IMAGE_SIZE, IMAGE_SIZE + 1] {
+        let sizes = [IMAGE_SIZE - 1, IMAGE_SIZE, IMAGE_SIZE + 1];
+        for length in [0, 1, NARROW_SIZE].into_iter().chain(sizes) {
             let is_image = length == IMAGE_SIZE;
             let mut image = Fenced::new(length);
             let answer = session_library::fresh(image.room());

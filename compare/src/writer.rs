@@ -6,7 +6,7 @@ use crate::made_books::{faulty_books, full, good_books, over_the_limits};
 use crate::made_growths::each_call;
 use crate::random_inputs::scratch_length;
 use crate::tally::{Met, Tally};
-use crate::writer_books::growing_book;
+use crate::writer_books::{deepest, growing_book};
 use crate::writer_call::{Given, Grown, Growth, LARGEST_BOOK};
 use crate::writer_edges;
 use crate::writer_limits;
@@ -19,7 +19,7 @@ use leskofar_reference::book_test::SCRATCH_SIZE;
 use leskofar_reference::damage::damaged;
 use leskofar_reference::filled_books::tiny;
 use leskofar_reference::maker::Maker;
-use leskofar_reference::random::{Random, AT_TIMES, OFTEN, RARELY};
+use leskofar_reference::random::{Random, AT_TIMES, HARDLY_EVER, OFTEN, RARELY};
 use leskofar_reference::random_books::{random_book, Counts};
 
 const SEED: u64 = 0x6772_6F77;
@@ -174,7 +174,11 @@ fn random_groups(tally: &mut Tally) {
         let mut ends = Met::default();
         let mut random = Random::new(SEED);
         for _ in 0..growths / GROWTHS_OF_A_BOOK {
-            let m = growing_book(&mut random);
+            let m = if random.one_in(HARDLY_EVER) {
+                deepest()
+            } else {
+                growing_book(&mut random)
+            };
             let book = if random.one_in(AT_TIMES) {
                 damaged(&mut random, &m)
             } else {

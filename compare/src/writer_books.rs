@@ -1,8 +1,10 @@
 //! Books for growths: with records enough that every call is accepted, and
 //! filled up to a count of one section.
 
+use crate::made_books::chain;
 use crate::session_books::session_book;
-use leskofar_reference::book::Section;
+use leskofar_reference::book::{Section, INT};
+use leskofar_reference::book_test::MOST_DEPTH;
 use leskofar_reference::filled_books::filled_up;
 use leskofar_reference::maker::Maker;
 use leskofar_reference::random::{Random, HARDLY_EVER, OFTEN};
@@ -15,6 +17,14 @@ const LARGE: usize = 60;
 /// is less than so many.
 const FREE: usize = 4;
 const LACKING: usize = 4;
+
+/// A chain that is as deep as it may be, with a term that nothing refers to.
+pub fn deepest() -> Maker {
+    let mut m = chain(MOST_DEPTH);
+    m.constant("c", INT);
+    m.boolean(true);
+    m
+}
 
 /// A random good book, with some terms that nothing refers to, at times
 /// full or nearly so in one section.

@@ -78,7 +78,7 @@ fn below(parent: u32, term: u32) -> [Growth; 5] {
 }
 
 fn depth_group(tally: &mut Tally) {
-    tally.group("writer, nodes 64 and 65 deep", || {
+    tally.group("writer, nodes 400 and 401 deep", || {
         let mut ends = Met::default();
         let mut m = chain(MOST_DEPTH);
         let [used, free] = [0, m.boolean(false)];

@@ -8,11 +8,12 @@ use leskofar_reference::maker::Maker;
 use leskofar_reference::random::{Random, AT_TIMES, HARDLY_EVER, OFTEN, RARELY};
 
 /// Texts that the four calls look for themselves, and borders of letters.
-const TEXTS: [&[u8]; 9] = [
+const TEXTS: [&[u8]; 10] = [
     b"=",
     b"probe%0",
     b"probe%1",
-    b"probe%64",
+    b"probe%399",
+    b"probe%400",
     b"",
     b"a:b",
     &[FIRST_LETTER],

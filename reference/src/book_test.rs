@@ -10,7 +10,7 @@ use crate::refusal::{refuse_if, CONTENTS, COUNT, DEPTH, FIELD, FOREST, SCRATCH_S
 /// The least scratch that a call takes.
 pub const SCRATCH_SIZE: usize = 1_024;
 /// The depth of the deepest node that passes.
-pub const MOST_DEPTH: usize = 64;
+pub const MOST_DEPTH: usize = 400;
 /// The letters that pass.
 pub const FIRST_LETTER: u8 = 0x20;
 pub const LAST_LETTER: u8 = 0x7E;

@@ -18,17 +18,18 @@ const LITERALS_AT: usize = AXIOMS_AT + Section::Axioms.most();
 /// The number of places.
 pub const PLACES: usize = LITERALS_AT + Section::Terms.most();
 
+pub type Level = u16;
 /// The level of what is not declared.
-const NOT_DECLARED: u8 = 0;
+const NOT_DECLARED: Level = 0;
 
 #[derive(Clone, Debug, PartialEq, Eq)]
-pub struct Levels(pub [u8; PLACES]);
+pub struct Levels(pub [Level; PLACES]);
 
 impl Levels {
     pub const NONE: Levels = Levels([NOT_DECLARED; PLACES]);
 
     /// Forgets what was declared above a level.
-    fn drop_above(&mut self, level: u8) {
+    fn drop_above(&mut self, level: Level) {
         for place in self.0.iter_mut().filter(|place| **place > level) {
             *place = NOT_DECLARED;
         }
@@ -47,7 +48,7 @@ impl Levels {
 struct LevelState {
     levels: Levels,
     literal_names: Vec<(usize, Vec<u8>)>,
-    level: u8,
+    level: Level,
 }
 
 impl LevelState {
@@ -126,8 +127,8 @@ impl<'p, 'b> Mover<'p, 'b> {
         for _ in shared..old.len() {
             self.walk.send(CMD_POP);
         }
-        self.walk.declared.levels.drop_above(shared as u8);
-        self.walk.declared.level = shared as u8;
+        self.walk.declared.levels.drop_above(shared as Level);
+        self.walk.declared.level = shared as Level;
         for node in &new[shared..] {
             let context = self.walk.program.node(*node).expect("a path has no root");
             self.push_level();

@@ -30,6 +30,7 @@ pub mod sexpr;
 pub mod sink;
 pub mod smtlib;
 pub mod stack;
+pub mod turns;
 pub mod walk;
 pub mod writer;
 
@@ -41,3 +42,4 @@ pub use operators::operator;
 pub use printing::{print, trace};
 pub use script::script;
 pub use session::{ask, model, move_to, reply, Replied};
+pub use turns::{narrow, widen};

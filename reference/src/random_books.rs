@@ -42,7 +42,7 @@ pub fn random_book(random: &mut Random, counts: Counts) -> Maker {
     let mut writer = Writer {
         missing_axioms: random.one_in(AT_TIMES),
         nested: random.one_in(AT_TIMES),
-        deep: random.one_in(OFTEN),
+        hanging: random.pick(&HANGING),
         random,
         counts,
         maker: Maker::default(),
@@ -73,6 +73,21 @@ pub(crate) enum Usage {
 }
 
 const USAGES: usize = 5;
+/// Which nodes most contexts hang below, so that books are wide, have some long
+/// chains, or one that is as deep as it can be.
+#[derive(Clone, Copy)]
+enum Hanging {
+    Any,
+    Newest,
+    Deepest,
+}
+
+const HANGING: [Hanging; 4] = [
+    Hanging::Any,
+    Hanging::Any,
+    Hanging::Newest,
+    Hanging::Deepest,
+];
 /// Letters that many names are made of, so that texts meet by chance.
 const COMMON_LETTERS: &[u8] = b"ab:|";
 /// Letters of a book, if it has so many: names cut from them make literals of
@@ -90,8 +105,7 @@ pub(crate) struct Writer<'r> {
     missing_axioms: bool,
     /// Terms take the newest roots, so that they nest deep.
     pub(crate) nested: bool,
-    /// Contexts hang below the newest ones.
-    deep: bool,
+    hanging: Hanging,
     /// Terms that nothing refers to yet.
     pub(crate) roots: Vec<u32>,
     /// How many of them the next term may take.
@@ -197,12 +211,12 @@ impl Writer<'_> {
         let mut depths = vec![0];
         for node in 1..=contexts.min(self.roots.len()) {
             let above: Vec<usize> = (0..node).filter(|n| depths[*n] < MOST_DEPTH).collect();
-            let newest = above[above.len() - 1];
-            let hangs_below_newest = self.deep && !self.random.one_in(HARDLY_EVER);
-            let parent = if hangs_below_newest {
-                newest
-            } else {
-                self.random.pick(&above)
+            let any = self.random.pick(&above);
+            let parent = match self.hanging {
+                _ if self.random.one_in(HARDLY_EVER) => any,
+                Hanging::Any => any,
+                Hanging::Newest => above[above.len() - 1],
+                Hanging::Deepest => *above.iter().max_by_key(|n| depths[**n]).unwrap_or(&any),
             };
             depths.push(depths[parent] + 1);
             let trace = self.random.up_to(self.maker.names.len()) as u32;

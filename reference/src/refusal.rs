@@ -1,4 +1,4 @@
-//! The numbers of document 01's refusals.
+//! The numbers of the refusals of documents 01 and 02.
 
 pub const SCRATCH_SHORT: u32 = 1;
 pub const CONTENTS: u32 = 2;
@@ -15,6 +15,7 @@ pub const SESSION: u32 = 20;
 pub const SOMETHING_OWED: u32 = 21;
 pub const NO_REPLY_OWED: u32 = 22;
 pub const NO_MODEL_OWED: u32 = 23;
+pub const TOO_DEEP_FOR_NARROW: u32 = 24;
 
 /// Ends the call with `number` if `fault` holds.
 pub fn refuse_if(fault: bool, number: u32) -> Result<(), u32> {
@@ -25,7 +26,7 @@ pub fn refuse_if(fault: bool, number: u32) -> Result<(), u32> {
     }
 }
 
-/// What a number means, after document 01's lists.
+/// What a number means, after the documents' lists.
 pub fn meaning(number: u32) -> &'static str {
     match number {
         SCRATCH_SHORT => "scratch shorter than 1,024 bytes",
@@ -33,7 +34,7 @@ pub fn meaning(number: u32) -> &'static str {
         COUNT => "a count over its limit",
         FIELD => "a field or reached list entry out of range, an unused field not 0, a bad letter",
         FOREST => "a child not smaller than its parent, or a term referred to twice",
-        DEPTH => "a node deeper than 64",
+        DEPTH => "a node deeper than 400",
         NOT_IN_BOOK => "the call's node or term is not in the book",
         REPLY_UNSAT => "the model call's reply is `unsat`",
         MISSING_AXIOM => "a declared function's axiom has no term",
@@ -43,6 +44,7 @@ pub fn meaning(number: u32) -> &'static str {
         SOMETHING_OWED => "move or ask while a reply or model is owed",
         NO_REPLY_OWED => "reply given, none owed",
         NO_MODEL_OWED => "model given, none owed",
+        TOO_DEEP_FOR_NARROW => "a session deeper than 64 is to become narrow",
         _ => "no refusal's number",
     }
 }

@@ -1,6 +1,6 @@
 //! The calls on a session: move, ask, reply and model.
 //!
-//! The session comes and goes as its byte image. An accepted call writes the
+//! The session comes and goes as its wide byte image. An accepted call writes the
 //! image of the session that it leaves, and its texts from byte 0; behind
 //! them the buffers keep what they held. A refused call leaves image, text
 //! and reason as they were. The scratch is zero whole after every call, but
@@ -8,7 +8,7 @@
 
 use crate::book_test::open;
 use crate::commands::{self, CMD_GET_MODEL, CMD_POP};
-use crate::image::{Owed, Session};
+use crate::image::{Kind, Owed, Session};
 use crate::levels::{Levels, Mover};
 use crate::program::Program;
 use crate::refusal::{
@@ -69,7 +69,7 @@ fn travel(
     goal: Option<u32>,
     text: &mut [u8],
 ) -> Result<usize, u32> {
-    let session = session_in(program, image)?;
+    let session = session_in(program, Kind::Wide, image)?;
     refuse_if(session.owed != Owed::Nothing, SOMETHING_OWED)?;
     let mut mover = Mover::new(program, session.levels, Sink::new(text.len()));
     mover.move_between(session.node as usize, node as usize);
@@ -84,7 +84,7 @@ fn travel(
         owed: goal.map_or(Owed::Nothing, |_| Owed::Reply),
         levels,
     };
-    moved.write(image);
+    moved.write(Kind::Wide, image);
     Ok(length)
 }
 
@@ -101,13 +101,13 @@ pub fn reply(
     reason: &mut [u8],
 ) -> Result<Replied, u32> {
     let program = open(book, scratch)?;
-    let session = session_in(&program, image)?;
+    let session = session_in(&program, Kind::Wide, image)?;
     refuse_if(session.owed != Owed::Reply, NO_REPLY_OWED)?;
     if failed {
         settle_unproved(session, image, &[reply], text, reason)
     } else if reply == UNSAT {
         let text = two_pops(text.len()).deliver(text)?;
-        settled(session).write(image);
+        settled(session).write(Kind::Wide, image);
         Ok(Replied::Proved { text })
     } else {
         let mut sent = Sink::new(text.len());
@@ -117,7 +117,7 @@ pub fn reply(
             owed: Owed::Model,
             ..session
         };
-        owing.write(image);
+        owing.write(Kind::Wide, image);
         Ok(Replied::ModelOwed { text })
     }
 }
@@ -135,7 +135,7 @@ pub fn model(
     reason: &mut [u8],
 ) -> Result<Replied, u32> {
     let program = open(book, scratch)?;
-    let session = session_in(&program, image)?;
+    let session = session_in(&program, Kind::Wide, image)?;
     refuse_if(session.owed != Owed::Model, NO_MODEL_OWED)?;
     refuse_if(reply == UNSAT, REPLY_UNSAT)?;
     match model {
@@ -163,7 +163,7 @@ fn settle_unproved(
     refuse_if(reason_sink.text().is_none(), TOO_LONG)?;
     let text = two_pops(text.len()).deliver(text)?;
     let reason = reason_sink.deliver(reason)?;
-    settled(session).write(image);
+    settled(session).write(Kind::Wide, image);
     Ok(Replied::Unproved { text, reason })
 }
 
@@ -184,10 +184,10 @@ fn settled(session: Session) -> Session {
     }
 }
 
-/// The session of an image, or refusal 20: it is the one that a fresh move to
-/// its node has, but for an open question.
-fn session_in(program: &Program, image: &[u8]) -> Result<Session, u32> {
-    let session = Session::read(image).ok_or(SESSION)?;
+/// The session of an image of a kind, or refusal 20: it is the one that a
+/// fresh move to its node has, but for an open question.
+pub(crate) fn session_in(program: &Program, kind: Kind, image: &[u8]) -> Result<Session, u32> {
+    let session = Session::read(kind, image).ok_or(SESSION)?;
     refuse_if(!program.has_node(session.node), SESSION)?;
     let question_passes = match session.owed {
         Owed::Nothing => session.goal == 0,

@@ -50,8 +50,8 @@ fn depth() {
     assert!(read(chain(MOST_DEPTH).as_bytes(), Options::default()).is_ok());
     let error = error(&chain(MOST_DEPTH + 1));
     assert_eq!((error.at.line, error.at.column), (MOST_DEPTH + 1, 7));
-    assert_eq!(error.expected, "a node at most 64 deep");
-    assert_eq!(error.found, "depth 65");
+    assert_eq!(error.expected, "a node at most 400 deep");
+    assert_eq!(error.found, "depth 401");
 }
 
 #[test]

@@ -233,8 +233,20 @@ fn chain(depth: usize) -> impl Fn(&mut Maker) {
 
 #[test]
 fn six_is_for_depth() {
-    assert_eq!(changed(chain(MOST_DEPTH)), Ok(()));
-    assert_eq!(changed(chain(MOST_DEPTH + 1)), Err(DEPTH));
+    for depth in [64, 65, 256, 399, 400] {
+        assert_eq!(changed(chain(depth)), Ok(()));
+    }
+    let room = Section::Contexts.most() - full().contexts.len();
+    for depth in [401, 402, room] {
+        assert_eq!(changed(chain(depth)), Err(DEPTH));
+    }
+    // Wherever the node stands.
+    let amid_others = |m: &mut Maker| {
+        chain(MOST_DEPTH + 1)(m);
+        let term = m.boolean(true);
+        m.context(0, term);
+    };
+    assert_eq!(changed(amid_others), Err(DEPTH));
 }
 
 #[test]

@@ -237,7 +237,7 @@ fn the_deepest_node() {
     let mut desk = Desk::new(&m);
     let asked = desk.ask(node, goal).expect("accepted");
     assert_eq!(asked.matches("(push 1)\n").count(), MOST_DEPTH + 2);
-    // The goal's declaration, at level 65, is not stored.
+    // The goal's declaration, one level deeper, is not stored.
     assert!(desk.image[16..].iter().all(|level| *level == 0));
     desk.reply(false, b"unsat").expect("accepted");
     let back = desk.move_to(0).expect("accepted");

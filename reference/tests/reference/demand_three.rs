@@ -2,6 +2,7 @@
 //! the Dafny bodies beside the session.
 
 use crate::desk::{Answer, Desk};
+use crate::turns::assert_turns;
 use leskofar_reference::engine::REngine;
 use leskofar_reference::image::Owed;
 use leskofar_reference::program::Program;
@@ -20,7 +21,7 @@ const POPS: &str = "(pop 1)\n(pop 1)\n";
 const GET_MODEL: &str = "(get-model)\n";
 /// The image's head: kind, node, goal, owed.
 const IMAGE_HEAD: usize = 16;
-const IMAGE_KIND: u32 = 1;
+const IMAGE_KIND: u32 = 2;
 const REPLIES: [&[u8]; 5] = [b"unsat", b"unsat", b"sat", b"unknown", b"\xFFunsat"];
 
 /// A list of calls so far. What is present and owed comes from the accepted
@@ -93,6 +94,10 @@ impl<'p, 'b> Run<'p, 'b> {
         let expected = expected_levels(&self.desk.book, self.node, self.goal);
         assert_eq!(Some(self.reader.levels()), expected.as_deref());
         self.compare_with_fresh(&expected.expect("reached"));
+        if random.one_in(RARELY) {
+            let depth = self.program.depth(self.node as usize);
+            assert_turns(&self.desk.book, &self.desk.image, depth);
+        }
     }
 
     /// A move or an ask; the refusal's number, or 0.

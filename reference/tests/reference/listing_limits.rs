@@ -22,9 +22,14 @@ const LISTINGS: usize = 10;
 fn the_deepest_node_and_no_trace() {
     let mut m = Maker::default();
     let mut node = 0;
+    // As many as there is room for beside the path.
+    let siblings = Section::Contexts.most() - MOST_DEPTH;
     for step in 0..MOST_DEPTH {
-        let [premise, sibling] = [m.integer(step as i64), m.boolean(true)];
-        m.traced_context(node, sibling, "aside");
+        if step < siblings {
+            let sibling = m.boolean(true);
+            m.traced_context(node, sibling, "aside");
+        }
+        let premise = m.integer(step as i64);
         node = m.traced_context(node, premise, "unseen");
     }
     let goal = m.boolean(false);

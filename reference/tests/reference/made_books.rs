@@ -16,11 +16,13 @@ use std::collections::{BTreeMap, BTreeSet};
 const SEED: u64 = 20_251_224;
 /// Sizes of books, with how many are made of each.
 const SIZES: [(usize, usize); 5] = [(1, 500), (3, 500), (12, 300), (60, 60), (400, 10)];
+const BOOKS_AT_LIMITS: usize = 24;
 const DAMAGES_OF_EACH: usize = 8;
 
 fn books() -> Vec<Maker> {
     let mut random = Random::new(SEED);
-    let mut books = vec![random_book(&mut random, Counts::limits())];
+    let at_limits = (0..BOOKS_AT_LIMITS).map(|_| random_book(&mut random, Counts::limits()));
+    let mut books: Vec<Maker> = at_limits.collect();
     for (size, many) in SIZES {
         for _ in 0..many {
             let counts = Counts::random(&mut random, size);

@@ -22,6 +22,8 @@ mod nodes_refusals;
 mod script_program;
 mod session_refusals;
 mod stack_reader;
+mod turn_refusals;
+mod turns;
 mod walk_rules;
 mod writer;
 mod writer_desk;

@@ -175,7 +175,8 @@ fn goals_and_what_no_node_reaches_play_no_part() {
     assert_eq!(Desk::new(&m).ask(node, goal), Err(MISSING_AXIOM));
 }
 
-/// As many nodes as there can be, 64 deep; only the last one lacks an axiom.
+/// As many nodes as there can be, in chains as deep as they may be; only the
+/// last one lacks an axiom.
 #[test]
 fn every_node_of_the_largest_book() {
     let mut m = Maker::default();

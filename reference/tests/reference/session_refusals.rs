@@ -3,7 +3,7 @@
 use crate::desk::Desk;
 use leskofar_reference::book::INT;
 use leskofar_reference::fresh_image;
-use leskofar_reference::image::IMAGE_SIZE;
+use leskofar_reference::image::{IMAGE_SIZE, NARROW_SIZE};
 use leskofar_reference::maker::{sample, Maker};
 use leskofar_reference::refusal::{
     CONTENTS, NO_MODEL_OWED, NO_REPLY_OWED, SESSION, SOMETHING_OWED,
@@ -15,11 +15,13 @@ const NODE: usize = 4;
 const GOAL: usize = 8;
 const OWED: usize = 12;
 const LEVELS: usize = 16;
+/// The bytes of a level, the low one first.
+const LEVEL: usize = 2;
 const TYPES: usize = LEVELS;
-const CONSTANTS: usize = TYPES + 64;
-const FUNCTIONS: usize = CONSTANTS + 256;
-const AXIOMS: usize = FUNCTIONS + 128;
-const LITERALS: usize = AXIOMS + 128;
+const CONSTANTS: usize = TYPES + 64 * LEVEL;
+const FUNCTIONS: usize = CONSTANTS + 256 * LEVEL;
+const AXIOMS: usize = FUNCTIONS + 128 * LEVEL;
+const LITERALS: usize = AXIOMS + 128 * LEVEL;
 
 /// All four calls, each on the same session; they are refused `number`.
 fn all_refuse(desk: &mut Desk, number: u32) {
@@ -38,8 +40,8 @@ fn sample_at(node: u32) -> Desk {
 #[test]
 fn the_fresh_image() {
     let image = fresh_image();
-    assert_eq!(image.len(), 1_616);
-    assert_eq!(image[..4], [1, 0, 0, 0]);
+    assert_eq!(image.len(), 3_216);
+    assert_eq!(image[..4], [2, 0, 0, 0]);
     assert!(image[4..].iter().all(|byte| *byte == 0));
 }
 
@@ -49,7 +51,7 @@ fn the_image_after_a_move() {
     let mut expected = fresh_image();
     expected[NODE] = 2;
     expected[CONSTANTS] = 1; // x
-    expected[CONSTANTS + 1] = 2; // y
+    expected[CONSTANTS + LEVEL] = 2; // y
     expected[FUNCTIONS] = 2;
     expected[AXIOMS] = 2;
     assert_eq!(desk.image, expected);
@@ -76,14 +78,15 @@ fn the_image_of_an_open_question() {
 fn twenty_is_for_images_of_no_session() {
     let mut desk = sample_at(3);
     let good = desk.image.clone();
-    for size in [0, 1, LEVELS, IMAGE_SIZE - 1, IMAGE_SIZE + 1] {
+    for size in [0, 1, LEVELS, NARROW_SIZE, IMAGE_SIZE - 1, IMAGE_SIZE + 1] {
         desk.image = good.clone();
         desk.image.resize(size, 0);
         all_refuse(&mut desk, SESSION);
     }
     for (at, byte) in [
         (KIND, 0),
-        (KIND, 2),
+        (KIND, 1),
+        (KIND, 3),
         (KIND + 3, 1),
         (OWED, 3),
         (OWED, 4),
@@ -110,7 +113,8 @@ fn twenty_is_for_sessions_that_no_fresh_move_has() {
         (CONSTANTS, 0),
         (CONSTANTS, 2),
         (CONSTANTS + 1, 1),
-        (CONSTANTS + 3, 1),
+        (CONSTANTS + LEVEL, 1),
+        (CONSTANTS + 3 * LEVEL, 1),
         (FUNCTIONS, 1),
         (AXIOMS, 1),
         (LITERALS, 1),

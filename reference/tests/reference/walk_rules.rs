@@ -46,9 +46,9 @@ fn a_literals_level_sits_at_the_declaring_term() {
     m.context(1, first);
     let mut desk = Desk::new(&m);
     desk.move_to(2).expect("accepted");
-    // The head, and the places before the literals.
-    let literals = &desk.image[16 + 64 + 256 + 128 + 128..];
-    assert_eq!(literals[..2], [0, 1]);
+    // The head, and the places before the literals, of two bytes each.
+    let literals = &desk.image[16 + 2 * (64 + 256 + 128 + 128)..];
+    assert_eq!(literals[..4], [0, 0, 1, 0]);
 }
 
 #[test]

@@ -2,7 +2,7 @@
 
 use crate::writer_desk::{accepted, bytes, grown, Growth};
 use leskofar_reference::book::{kind, Book, Section, BOOL, INT};
-use leskofar_reference::book_test::check;
+use leskofar_reference::book_test::{check, MOST_DEPTH};
 use leskofar_reference::maker::{sample, Maker};
 use leskofar_reference::random::Random;
 use leskofar_reference::random_books::{random_book, Counts};
@@ -217,13 +217,14 @@ fn new_names_come_in_the_order_probe_equals_trace() {
 #[test]
 fn the_probe_name_has_the_depth_of_the_parent() {
     let mut m = Maker::default();
-    for node in 0..64 {
+    let depths = 0..MOST_DEPTH as u32;
+    for node in depths.clone() {
         let term = m.boolean(true);
         m.context(node, term);
     }
     let goal = m.boolean(false);
     let book = m.book();
-    for parent in 0..64 {
+    for parent in depths {
         for growth in [
             Growth::record(parent, goal, INT, None),
             Growth::trace_point(parent, "t"),
