@@ -17,7 +17,7 @@ const char *refusal_meaning(uint32_t refusal) {
     case LESKOFAR_NO_FOREST:
         return "a child is not smaller than its parent, or a term is referred to twice";
     case LESKOFAR_TOO_DEEP:
-        return "a node is deeper than 64";
+        return "a node is deeper than 400";
     case LESKOFAR_NOT_IN_BOOK:
         return "the node or term is not in the book";
     case LESKOFAR_REPLY_IS_UNSAT:
@@ -36,6 +36,8 @@ const char *refusal_meaning(uint32_t refusal) {
         return "a reply is given and none is owed";
     case LESKOFAR_NO_MODEL_OWED:
         return "a model is given and none is owed";
+    case LESKOFAR_TOO_DEEP_FOR_NARROW:
+        return "the session is deeper than 64, which one of the narrow kind cannot be";
     }
     return "a number that no refusal has";
 }

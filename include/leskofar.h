@@ -2,7 +2,7 @@
  * Leskofar: the proved script writer between a tree of premises and an SMT solver.
  *
  * Every call takes every input: it checks the book, the session and the numbers for itself, always returns, and refuses what it cannot
- * take with a number. A refused call changes neither the session nor the buffers for a text, a reason or a new book.
+ * take with a number. A refused call changes neither the session nor the buffers for a text, a reason, a new book or another image.
  *
  * Buffers are a pointer and a length. The buffers of one call must not overlap: that is the one thing that a call cannot check, and no
  * proof holds where they do. A pointer may be NULL where its length is 0.
@@ -22,21 +22,22 @@ extern "C" {
 /* What a call answers: 0 where it is accepted, else why it is refused. */
 enum leskofar_refusal {
     LESKOFAR_ACCEPTED = 0,
-    LESKOFAR_SHORT_SCRATCH = 1,      /* the scratch is shorter than LESKOFAR_SCRATCH */
-    LESKOFAR_BAD_CONTENTS = 2,       /* the book's table of contents is not as laid out */
-    LESKOFAR_COUNT_OVER_LIMIT = 3,   /* a section has more records than it may, or a list more nodes */
-    LESKOFAR_FIELD_OUT_OF_RANGE = 4, /* a field or list entry is out of range, an unused field is not 0, or a letter is bad */
-    LESKOFAR_NO_FOREST = 5,          /* a child is not smaller than its parent, or a term is referred to twice */
-    LESKOFAR_TOO_DEEP = 6,           /* a node is deeper than 64 */
-    LESKOFAR_NOT_IN_BOOK = 7,        /* a node or term of the call is not in the book */
-    LESKOFAR_REPLY_IS_UNSAT = 8,     /* a model is given for the reply unsat */
-    LESKOFAR_MISSING_AXIOM = 9,      /* a function to be declared has an axiom without a term */
-    LESKOFAR_BUFFER_TOO_SHORT = 10,  /* the text, the reason or the new book is longer than its buffer */
-    LESKOFAR_NO_OPERATOR = 11,       /* the operator's code is not from 1 to 14 */
-    LESKOFAR_NO_SESSION = 20,        /* the session is not one that this book's calls leave */
-    LESKOFAR_QUESTION_OPEN = 21,     /* move or ask while a reply or model is owed */
-    LESKOFAR_NO_REPLY_OWED = 22,     /* a reply is given and none is owed */
-    LESKOFAR_NO_MODEL_OWED = 23      /* a model is given and none is owed */
+    LESKOFAR_SHORT_SCRATCH = 1,       /* the scratch is shorter than LESKOFAR_SCRATCH */
+    LESKOFAR_BAD_CONTENTS = 2,        /* the book's table of contents is not as laid out */
+    LESKOFAR_COUNT_OVER_LIMIT = 3,    /* a section has more records than it may, or a list more nodes */
+    LESKOFAR_FIELD_OUT_OF_RANGE = 4,  /* a field or list entry is out of range, an unused field is not 0, or a letter is bad */
+    LESKOFAR_NO_FOREST = 5,           /* a child is not smaller than its parent, or a term is referred to twice */
+    LESKOFAR_TOO_DEEP = 6,            /* a node is deeper than 400 */
+    LESKOFAR_NOT_IN_BOOK = 7,         /* a node or term of the call is not in the book */
+    LESKOFAR_REPLY_IS_UNSAT = 8,      /* a model is given for the reply unsat */
+    LESKOFAR_MISSING_AXIOM = 9,       /* a function to be declared has an axiom without a term */
+    LESKOFAR_BUFFER_TOO_SHORT = 10,   /* the text, the reason or the new book is longer than its buffer */
+    LESKOFAR_NO_OPERATOR = 11,        /* the operator's code is not from 1 to 14 */
+    LESKOFAR_NO_SESSION = 20,         /* the session is not one that this book's calls leave */
+    LESKOFAR_QUESTION_OPEN = 21,      /* move or ask while a reply or model is owed */
+    LESKOFAR_NO_REPLY_OWED = 22,      /* a reply is given and none is owed */
+    LESKOFAR_NO_MODEL_OWED = 23,      /* a model is given and none is owed */
+    LESKOFAR_TOO_DEEP_FOR_NARROW = 24 /* the session to be turned back is deeper than 64 */
 };
 
 /* The least scratch that a call takes. It need not be cleared first. */
@@ -95,8 +96,12 @@ leskofar_printed leskofar_listing(const uint8_t *book, size_t book_len, uint8_t 
  */
 leskofar_printed leskofar_operator(uint32_t code, uint8_t *text, size_t text_len);
 
-/* Bytes of a session's image (docs/SESSION.md). The host keeps the image, and hands it to each call on the session. */
-#define LESKOFAR_IMAGE 1616
+/*
+ * Bytes of a session's image, and of one of the narrow kind, with one byte for each level (docs/SESSION.md). The host keeps the image,
+ * and hands it to each call on the session.
+ */
+#define LESKOFAR_IMAGE 3216
+#define LESKOFAR_NARROW_IMAGE 1616
 
 /* What a call on a session leads to. */
 enum leskofar_result {
@@ -155,6 +160,18 @@ leskofar_answer leskofar_reply(const uint8_t *book, size_t book_len, uint8_t *sc
 leskofar_answer leskofar_model(const uint8_t *book, size_t book_len, uint8_t *scratch, size_t scratch_len, uint8_t *image,
                                size_t image_len, const uint8_t *reply, size_t reply_len, uint32_t has_model, const uint8_t *model,
                                size_t model_len, uint8_t *text, size_t text_len, uint8_t *reason, size_t reason_len);
+
+/*
+ * Turns a session of the narrow kind into one that the calls take, with the same node, levels and question: refusals 1 to 6 and 20.
+ * 20 also for a narrow session deeper than 64, and where a length is not LESKOFAR_NARROW_IMAGE or LESKOFAR_IMAGE. The narrow image is
+ * only read; a refused call does not touch the other.
+ */
+uint32_t leskofar_widen(const uint8_t *book, size_t book_len, uint8_t *scratch, size_t scratch_len, const uint8_t *narrow,
+                        size_t narrow_len, uint8_t *image, size_t image_len);
+
+/* Turns it back: refusals 1 to 6, 20, then 24 for a session deeper than 64. Lengths and buffers as above. */
+uint32_t leskofar_narrow(const uint8_t *book, size_t book_len, uint8_t *scratch, size_t scratch_len, const uint8_t *image,
+                         size_t image_len, uint8_t *narrow, size_t narrow_len);
 
 /* The most numbers that a list of nodes may have. */
 #define LESKOFAR_NODES_MOST 512

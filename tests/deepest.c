@@ -34,6 +34,7 @@ int main(int count, char **arguments) {
         put(arguments[1], "axiom", i, write_axioms(book, &shapes[i], 1));
         put(arguments[1], "axioms", i, write_axioms(book, &shapes[i], MOST_AXIOMS));
         put(arguments[1], "own", i, write_own_axiom(book, &shapes[i]));
+        put(arguments[1], "deep", i, write_deep_axiom(book, &shapes[i], MOST_DEPTH));
     }
     put(arguments[1], "chain", 0, write_chain(book));
     stop_if(fflush(stdout) != 0, "the list");

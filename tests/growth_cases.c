@@ -177,9 +177,9 @@ static void hanging_tests(void) {
             expect("a parent outside", refused(HANGING[i](outside[k], FREE), LESKOFAR_NOT_IN_BOOK));
         }
         lend(&lent, &deep);
-        expect("below depth 63", HANGING[i](MOST_DEPTH - 1, FREE).number == MOST_DEPTH + 1);
+        expect("below depth 399", HANGING[i](MOST_DEPTH - 1, FREE).number == MOST_DEPTH + 1);
         lend(&lent, &deep);
-        expect("below depth 64", refused(HANGING[i](MOST_DEPTH, FREE), LESKOFAR_TOO_DEEP));
+        expect("below depth 400", refused(HANGING[i](MOST_DEPTH, FREE), LESKOFAR_TOO_DEEP));
     }
     for (int i = 0; i < WITH_TERM; i++) {
         set_small();

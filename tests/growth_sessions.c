@@ -1,7 +1,7 @@
 /* Sessions that go on while their book grows, as C sees them, also while a reply or a model is owed. */
 #include "growth_calls.h"
 
-enum { TEXT_SIZE = 8192 };
+enum { TEXT_SIZE = 32768, NARROW_DEPTH = 64 };
 
 /* The small book with a literal in node 2, and the same literal once more as a goal. */
 enum { LITERAL = 2, LITERAL_NODE = 2, GOAL = SMALL_TERMS + 1 };
@@ -164,10 +164,31 @@ static int wrote(const struct desk *d, leskofar_answer answer, const char *text)
     return answer.refusal == LESKOFAR_ACCEPTED && answer.text == strlen(text) && memcmp(d->text, text, strlen(text)) == 0;
 }
 
-/* What a move down to a point and a question about `true` there write. */
+/* A book has not room for a point at each depth: the others are plain premises. The last is a point. */
+enum { EVERY = 4 };
+
+static int is_point_below(uint32_t depth) {
+    return depth % EVERY == (MOST_DEPTH - 1) % EVERY;
+}
+
+/* A node below another of this depth. */
+static uint32_t grow_at(uint32_t parent, uint32_t depth) {
+    if (is_point_below(depth)) {
+        return grow_point_at(parent);
+    }
+    uint32_t term = grow_truth();
+    return take_newest(leskofar_extend(NEWEST, parent, term, 0, NULL, 0, NEW(&lent)));
+}
+
+/* What a move down to that node and a question about `true` there write. */
 static void question_text(char *text, size_t size, uint32_t depth) {
-    (void)snprintf(text, size, "(push 1)\n(declare-fun probe%%%u () Bool)\n(assert (= probe%%%u true))\n(push 1)\n(push 1)\n"
-                               "(assert (not true))\n(check-sat)\n", (unsigned)depth, (unsigned)depth);
+    static const char question[] = "(push 1)\n(push 1)\n(assert (not true))\n(check-sat)\n";
+    if (is_point_below(depth)) {
+        (void)snprintf(text, size, "(push 1)\n(declare-fun probe%%%u () Bool)\n(assert (= probe%%%u true))\n%s", (unsigned)depth,
+                       (unsigned)depth, question);
+    } else {
+        (void)snprintf(text, size, "(push 1)\n(assert true)\n%s", question);
+    }
 }
 
 static int is_fresh_ones(const struct desk *d, uint32_t node) {
@@ -176,29 +197,56 @@ static int is_fresh_ones(const struct desk *d, uint32_t node) {
     return move_to(&newest, &fresh, node).refusal == LESKOFAR_ACCEPTED && memcmp(fresh.image, d->image, sizeof d->image) == 0;
 }
 
+/* A question at a node while the book grows, from its text to its model, and a node beside it in the end. */
+static uint32_t question_at(struct desk *d, uint32_t node, uint32_t depth, uint32_t truth) {
+    static const char two_pops[] = "(pop 1)\n(pop 1)\n";
+    char wanted[TEXT_SIZE];
+    uint32_t beside = 0;
+    question_text(wanted, sizeof wanted, depth);
+    expect("a question at a new node", wrote(d, ask(&newest, d, node, truth), wanted));
+    if (is_point_below(depth)) {
+        beside = grow_point_at(0);
+        expect("no move while a reply is owed", move_to(&newest, d, beside).refusal == LESKOFAR_QUESTION_OPEN);
+    }
+    expect("its reply", wrote(d, reply(&newest, d, 1, "sat"), "(get-model)\n"));
+    if (is_point_below(depth)) {
+        (void)grow_truth();
+    }
+    expect("no question while a model is owed", ask(&newest, d, node, truth).refusal == LESKOFAR_QUESTION_OPEN);
+    expect("its model", wrote(d, model(&newest, d, "sat", 1), two_pops));
+    expect("the fresh one's", is_fresh_ones(d, node));
+    return beside;
+}
+
+/* A node below the session's, which is kept in the narrow kind while the book grows, as long as it is not too deep for that. */
+static uint32_t grow_below(struct desk *d, uint32_t parent, uint32_t depth) {
+    uint8_t narrow[LESKOFAR_NARROW_IMAGE];
+    const uint32_t refusal = depth <= NARROW_DEPTH ? LESKOFAR_ACCEPTED : LESKOFAR_TOO_DEEP_FOR_NARROW;
+    expect("a session to be kept", leskofar_narrow(NEWEST, d->image, sizeof d->image, narrow, sizeof narrow) == refusal);
+    uint32_t node = grow_at(parent, depth);
+    if (refusal == LESKOFAR_ACCEPTED) {
+        memset(d->image, FILL, sizeof d->image);
+        expect("it goes on with the grown book",
+               leskofar_widen(NEWEST, narrow, sizeof narrow, d->image, sizeof d->image) == LESKOFAR_ACCEPTED);
+    }
+    return node;
+}
+
 /* One session from the book without records down to the greatest depth; the book grows before each call. */
 static void chain_tests(void) {
     static struct desk d;
-    static const char two_pops[] = "(pop 1)\n(pop 1)\n";
-    char wanted[TEXT_SIZE];
+    uint32_t node = 0;
     uint32_t beside = 0;
     memset(&literals, 0, sizeof literals);
     lend(&lent, &literals);
     newest.length = write_records(newest.at, &literals);
     begin(&d);
-    for (uint32_t depth = 0, node = 0; depth < MOST_DEPTH; depth++) {
-        node = grow_point_at(depth == 0 ? 0 : node);
-        question_text(wanted, sizeof wanted, depth);
-        expect("a question at a new node", wrote(&d, ask(&newest, &d, node, grow_truth()), wanted));
-        beside = grow_point_at(0);
-        expect("no move while a reply is owed", move_to(&newest, &d, beside).refusal == LESKOFAR_QUESTION_OPEN);
-        expect("its reply", wrote(&d, reply(&newest, &d, 1, "sat"), "(get-model)\n"));
-        (void)grow_truth();
-        expect("no question while a model is owed", ask(&newest, &d, node, 0).refusal == LESKOFAR_QUESTION_OPEN);
-        expect("its model", wrote(&d, model(&newest, &d, "sat", 1), two_pops));
-        expect("the fresh one's", is_fresh_ones(&d, node));
+    uint32_t truth = grow_truth();
+    for (uint32_t depth = 0; depth < MOST_DEPTH; depth++) {
+        node = grow_below(&d, node, depth);
+        beside = question_at(&d, node, depth, truth);
     }
-    expect("65 deep", leskofar_record_trace_point(NEWEST, beside - 1, TEXT("point"), NEW(&lent)).refusal == LESKOFAR_TOO_DEEP);
+    expect("401 deep", leskofar_record_trace_point(NEWEST, node, TEXT("point"), NEW(&lent)).refusal == LESKOFAR_TOO_DEEP);
     leskofar_answer answer = move_to(&newest, &d, beside);
     expect("up to the root and down beside", answer.refusal == LESKOFAR_ACCEPTED && is_fresh_ones(&d, beside));
 }

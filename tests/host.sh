@@ -184,7 +184,7 @@ hangs() { # solver [text...]
     seconds=$ENOUGH
 }
 
-for group in ${PARTS:-usage names sorts verdicts samples nodes growth lines work faults attacks limits kills stack engines mutants splices plans}; do
+for group in ${PARTS:-usage names sorts verdicts samples nodes growth lines work depths faults attacks limits kills stack engines mutants splices plans}; do
     . "tests/host/$group.sh"
 done
 

@@ -10,7 +10,7 @@ enum {
     MOST_PATTERNS = 128,
     MOST_TERMS = 1024,
     MOST_LISTS = 2048,
-    MOST_DEPTH = 64,
+    MOST_DEPTH = 400,
     FUNCTION_FIELDS = 6,
     AXIOM_FIELDS = 3,
     TERM_FIELDS = 7,
@@ -222,13 +222,36 @@ static inline struct written write_own_axiom(uint8_t *book, const struct shape *
     return write_out(book, &n);
 }
 
-/* Nodes below each other, as deep as they may be. */
+/* Nodes below each other, each with a small term. */
+static inline void add_chain(struct nest *n, uint32_t depth) {
+    for (uint32_t node = 0; node < depth; node++) {
+        add_node(n, node, leaf(n));
+    }
+}
+
+/* Such a chain, as deep as it may be. */
 static inline struct written write_chain(uint8_t *book) {
     static struct nest n;
     begin_nest(&n);
-    for (uint32_t node = 0; node < MOST_DEPTH; node++) {
-        add_node(&n, node, leaf(&n));
-    }
+    add_chain(&n, MOST_DEPTH);
+    return write_out(book, &n);
+}
+
+/* A chain whose last node has a nest of the terms that are left. */
+static inline struct written write_deep_nest(uint8_t *book, const struct shape *s, uint32_t depth) {
+    static struct nest n;
+    begin_nest(&n);
+    add_chain(&n, depth - 1);
+    add_node(&n, depth - 1, nest_around(&n, s, leaf(&n), MOST_TERMS));
+    return write_out(book, &n);
+}
+
+/* A chain, and an axiom of the terms that are left, which as the goal at the last node is walked twice at once. */
+static inline struct written write_deep_axiom(uint8_t *book, const struct shape *s, uint32_t depth) {
+    static struct nest n;
+    begin_nest(&n);
+    add_chain(&n, depth);
+    add_axioms(&n, s, ONES, MOST_TERMS);
     return write_out(book, &n);
 }
 

@@ -11,7 +11,7 @@ static const size_t FIELDS[NUMBERED] = {2, 1, 2, 6, 3, 2, 7, 3, 1};
 static const size_t MOST[NUMBERED] = {512, 64, 256, 128, 128, 128, 1024, 512, 2048};
 
 /* One letter and one record more than there may be, and the numbers of the longest section. */
-enum { MOST_LETTERS = 8192, MOST_DEPTH = 64, ROOM_LETTERS = MOST_LETTERS + 2, ROOM_NUMBERS = 1025 * 7, ROOM_BOOK = 65536 };
+enum { MOST_LETTERS = 8192, MOST_DEPTH = 400, ROOM_LETTERS = MOST_LETTERS + 2, ROOM_NUMBERS = 1025 * 7, ROOM_BOOK = 65536 };
 
 struct records {
     char letters[ROOM_LETTERS];

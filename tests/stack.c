@@ -3,20 +3,19 @@
  * the header promises and what a thread itself takes, with no page mapped behind it.
  */
 #define _DEFAULT_SOURCE
-#include "expect.h"
+#include "measured_stack.h"
 #include "nests.h"
-#include <leskofar.h>
-#include <limits.h>
-#include <pthread.h>
-#include <stdlib.h>
-#include <sys/mman.h>
 
-enum { BOOK_SIZE = 65536, TEXT_SIZE = 1 << 25, PAINT = 0xA5, PAGE = 4096, LARGE_STACK = 1 << 23 };
+enum { BOOK_SIZE = 65536, TEXT_SIZE = 1 << 25 };
+
+/* A narrow image: its kind, how deep its session may be, and where its levels begin, as they do in a wide one. */
+enum { NARROW_KIND = 1, NARROW_DEPTH = 64, LEVELS_AT = 16 };
 
 static uint8_t book[BOOK_SIZE];
 static struct written written;
 static uint8_t scratch[LESKOFAR_SCRATCH];
 static uint8_t image[LESKOFAR_IMAGE];
+static uint8_t narrow[LESKOFAR_NARROW_IMAGE];
 static uint8_t text[TEXT_SIZE];
 static uint8_t new_book[LESKOFAR_BOOK];
 
@@ -89,6 +88,22 @@ static uint32_t question(uint32_t node) {
     return answer.refusal;
 }
 
+static uint32_t ask_at_last(uint32_t goal) {
+    (void)leskofar_fresh(image, sizeof image);
+    return leskofar_ask(BOOK, image, sizeof image, written.node, goal, text, sizeof text).refusal;
+}
+
+/* The turns of the session where it stands: accepted here where they answer as they must. */
+static uint32_t turn_back(uint32_t wanted) {
+    uint32_t answer = leskofar_narrow(BOOK, image, sizeof image, narrow, sizeof narrow);
+    return answer == wanted ? LESKOFAR_ACCEPTED : LESKOFAR_NO_SESSION;
+}
+
+static uint32_t widen(uint32_t wanted) {
+    uint32_t answer = leskofar_widen(BOOK, narrow, sizeof narrow, image, sizeof image);
+    return answer == wanted ? LESKOFAR_ACCEPTED : LESKOFAR_NO_SESSION;
+}
+
 /* The writer's calls: with room for every book, and below a parent whose depth is in a new name. */
 static const uint8_t trace[] = {'s', 't', 'e', 'p'};
 
@@ -127,77 +142,39 @@ static uint32_t record_trace_point(uint32_t parent) {
     return leskofar_record_trace_point(BOOK, parent, trace, sizeof trace, NEW).refusal;
 }
 
-struct job {
-    uint32_t (*call)(uint32_t);
-    uint32_t number;
-    uint8_t *stack;
-    size_t stack_len;
-    uint32_t refusal;
-    size_t used;
-};
-
-/* Makes the call, and counts from here down to the lowest byte that it has touched. */
-static void *run_job(void *given) {
-    struct job *job = given;
-    volatile uint8_t here = 0;
-    job->refusal = job->call(job->number);
-    size_t clean = here;
-    while (clean < job->stack_len && job->stack[clean] == PAINT) {
-        clean++;
-    }
-    job->used = (size_t)((uintptr_t)&here - (uintptr_t)(job->stack + clean));
-    return NULL;
-}
-
-static void stop_if(int fault, const char *what) {
-    if (fault) {
-        fprintf(stderr, "cannot %s\n", what);
-        exit(EXIT_FAILURE);
+/* The session's image as a narrow one, also where no narrow session is so deep. */
+static void spell_narrow(void) {
+    memcpy(narrow, image, LEVELS_AT);
+    put_number(narrow, NARROW_KIND);
+    for (size_t place = 0; place < sizeof narrow - LEVELS_AT; place++) {
+        narrow[LEVELS_AT + place] = image[LEVELS_AT + 2 * place];
     }
 }
 
-/* Runs a call on a painted stack of a length, behind a page that may not be touched, and gives what it used. */
-static size_t run_on(size_t stack_len, const char *name, uint32_t (*call)(uint32_t), uint32_t number) {
-    size_t whole = PAGE + stack_len;
-    uint8_t *pages = mmap(NULL, whole, PROT_READ | PROT_WRITE, MAP_PRIVATE | MAP_ANONYMOUS, -1, 0);
-    stop_if(pages == MAP_FAILED, "map a stack");
-    stop_if(mprotect(pages, PAGE, PROT_NONE) != 0, "guard a stack");
-    struct job job = {call, number, pages + PAGE, stack_len, 0, 0};
-    memset(job.stack, PAINT, stack_len);
-
-    pthread_attr_t attr;
-    pthread_t thread;
-    stop_if(pthread_attr_init(&attr) != 0, "set up a thread");
-    stop_if(pthread_attr_setstack(&attr, job.stack, stack_len) != 0, "give a thread its stack");
-    stop_if(pthread_create(&thread, &attr, run_job, &job) != 0, "start a thread");
-    stop_if(pthread_join(thread, NULL) != 0, "end a thread");
-    stop_if(pthread_attr_destroy(&attr) != 0, "put a thread away");
-    stop_if(munmap(pages, whole) != 0, "unmap a stack");
-    expect(name, job.refusal == LESKOFAR_ACCEPTED);
-    return job.used;
+/* Of the session where it stands. */
+static void measure_turns(struct given g, uint32_t depth) {
+    const int is_deep = depth > NARROW_DEPTH;
+    measure("turning back", g, LESKOFAR_SESSION_STACK, turn_back, is_deep ? LESKOFAR_TOO_DEEP_FOR_NARROW : LESKOFAR_ACCEPTED);
+    spell_narrow();
+    measure("widening", g, LESKOFAR_SESSION_STACK, widen, is_deep ? LESKOFAR_NO_SESSION : LESKOFAR_ACCEPTED);
 }
 
-/* What a call is given, in words. */
-struct given {
-    const char *name;
-    const char *where;
-};
-
-/* Measures a call with room enough, and tries it with no more than is promised. */
-static void measure(const char *call_name, struct given g, size_t promised, uint32_t (*call)(uint32_t), uint32_t number) {
-    const size_t small = (promised + (size_t)PTHREAD_STACK_MIN + PAGE - 1) / PAGE * PAGE;
-    size_t used = run_on(LARGE_STACK, call_name, call, number);
-    printf("%s, %s %s: %zu bytes of stack\n", call_name, g.name, g.where, used);
-    expect("within what is promised", used <= promised);
-    (void)run_on(small, call_name, call, number);
+/* Of the book just written: its last term asked at the root and at the last node. */
+static void measure_asks(struct given g) {
+    measure("ask", g, LESKOFAR_SESSION_STACK, ask_at_root, written.term);
+    measure("ask at the node", g, LESKOFAR_SESSION_STACK, ask_at_last, written.term);
 }
 
-/* Of the book just written: down to its last node, the test of a list with it, a question there, and its last term asked at the root. */
-static void measure_session(struct given g) {
+/*
+ * The same of a book whose last node is so deep, and before that down to the node, the test of a list with it, and a question and the
+ * turns there.
+ */
+static void measure_session(struct given g, uint32_t depth) {
     measure("move", g, LESKOFAR_SESSION_STACK, move_down, written.node);
     measure("nodes test", g, LESKOFAR_SESSION_STACK, test_nodes, written.node);
     measure("question", g, LESKOFAR_SESSION_STACK, question, written.node);
-    measure("ask", g, LESKOFAR_SESSION_STACK, ask_at_root, written.term);
+    measure_turns(g, depth);
+    measure_asks(g);
 }
 
 /* Of the book just written: its last term in both layouts and listed, and its last node's premises. */
@@ -235,28 +212,39 @@ static void measure_shape(const struct shape *s) {
     const struct given in_node = {s->name, "in a node"};
     written = write_nest(book, s, leaf);
     measure_texts(in_node);
-    measure_session(in_node);
+    measure_session(in_node, 1);
     measure_growth(in_node);
     written = write_nest(book, s, least_number);
     measure_texts((struct given){s->name, "around a negative number"});
     written = write_axioms(book, s, 1);
-    measure_session((struct given){s->name, "in an axiom"});
+    measure_session((struct given){s->name, "in an axiom"}, 1);
     written = write_axioms(book, s, MOST_AXIOMS);
-    measure_session((struct given){s->name, "in as many axioms as there can be"});
+    measure_session((struct given){s->name, "in as many axioms as there can be"}, 1);
     written = write_own_axiom(book, s);
     measure("ask", (struct given){s->name, "in the goal's own axiom"}, LESKOFAR_SESSION_STACK, ask_at_root, written.term);
+}
+
+/* The same shape in as many terms as a chain of nodes leaves. */
+static void measure_deep_shape(const struct shape *s) {
+    written = write_deep_nest(book, s, NARROW_DEPTH);
+    measure_session((struct given){s->name, "in a node 64 deep"}, NARROW_DEPTH);
+    written = write_deep_nest(book, s, MOST_DEPTH);
+    measure_session((struct given){s->name, "in a node 400 deep"}, MOST_DEPTH);
+    written = write_deep_axiom(book, s, MOST_DEPTH);
+    measure_asks((struct given){s->name, "in the goal's own axiom, 400 nodes deep"});
 }
 
 int main(void) {
     const struct given chain = {"nodes", "below each other"};
     for (size_t i = 0; i < sizeof shapes / sizeof shapes[0]; i++) {
         measure_shape(&shapes[i]);
+        measure_deep_shape(&shapes[i]);
     }
     written = write_chain(book);
     measure("book test", chain, LESKOFAR_STACK, test_book, 0);
     measure("trace", chain, LESKOFAR_STACK, trace_node, written.node);
     measure("listing", chain, LESKOFAR_STACK, list_premises, written.node);
-    measure_session(chain);
+    measure_session(chain, MOST_DEPTH);
     measure_all_growth(chain);
     measure("operator", (struct given){"any", "code"}, LESKOFAR_STACK, name_operator, 1);
     return close_tests();

@@ -175,17 +175,19 @@ refuses "refused 4, $would" extend "$new" 0 "$first" "$(printf 'a\177')"
 refuses "refused 4, $would" equate "$new" 0 999 "$first"
 refuses "refused 5, $would a child is not smaller than its parent" extend "$new" 0 "$first"
 refuses "refused 5, $would" append term "$new" 4 0 --first "$(count_of "$new" "$TERMS")"
-# A full book, whose last node is 64 deep: what would be the 513th node is refused 3 wherever it hangs.
+# A full book, with a node 400 deep: what would be the 513th node is refused 3 wherever it hangs.
 {
     echo '(constant p Bool)'
-    seq 512 | awk '{ print "(node n" $1 " " ($1 % 64 == 1 ? "root" : "n" $1 - 1) " p)" }'
+    seq 512 | awk '{ print "(node n" $1 " " ($1 % 400 == 1 ? "root" : "n" $1 - 1) " p)" }'
     echo '(goal g root p)'
 } >"$grown/full.plan"
 "$TOOLS/plan" book "$grown/full.plan" -o "$grown/full.book" || exit 1
-refuses "refused 3, $would a section of the book has more records than it may" extend "$grown/full.book" 512 512
+for parent in 400 512; do
+    refuses "refused 3, $would a section of the book has more records than it may" extend "$grown/full.book" "$parent" 512
+done
 sed '/n512/d' "$grown/full.plan" >"$grown/deep.plan"
 "$TOOLS/plan" book "$grown/deep.plan" -o "$grown/deep.book" || exit 1
-refuses "refused 6, $would a node is deeper than 64" extend "$grown/deep.book" 448 511
+refuses "refused 6, $would a node is deeper than 400" extend "$grown/deep.book" 400 511
 run extend "$grown/deep.book" 511 511 -o "$grown/full.book"
 expect_number 'the last node' 512 "$grown/full.book"
 

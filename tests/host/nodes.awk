@@ -38,14 +38,13 @@ function applied_at_random(    kind) {
 
 # Mostly one that can be reached itself, and often the last one.
 function parent_at_random(node,    parent) {
-    do parent = any(3) == 0 ? any(node) : node - 1; while (depth[parent] == MOST_DEPTH || (fails[parent] && any(5) > 0 && node > 2))
+    do parent = any(3) == 0 ? any(node) : node - 1; while (fails[parent] && any(5) > 0 && node > 2)
     return parent
 }
 
 # Whether a node fails, by its parent's state and what it applies; the state is what is declared on the way to it.
 function add_node(node,    parent, applied, fails_here) {
     parent = parent_at_random(node)
-    depth[node] = depth[parent] + 1
     applied = applied_at_random()
     fails_here = applied ~ /^(lost|idle|linked)$/ || (applied == "waiting" && !has_waiting[parent] && has_plain[parent])
     fails[node] = fails[parent] || fails_here
@@ -91,7 +90,6 @@ function write_list(size,    i, words, wild) {
 }
 
 BEGIN {
-    MOST_DEPTH = 64
     MOST_NODES = 512
     srand(seed)
     plan = to ".plan"

@@ -174,7 +174,7 @@ expect_said 'a node that it has not' 2 \
 # As many nodes as a book has: below each other as deep as they may be, and then from the root again.
 {
     echo '(constant p Bool)'
-    seq 512 | awk '{ print "(node n" $1 " " ($1 % 64 == 1 ? "root" : "n" $1 - 1) " p)" }'
+    seq 512 | awk '{ print "(node n" $1 " " ($1 % 400 == 1 ? "root" : "n" $1 - 1) " p)" }'
 } >"$work/full.plan"
 "$TOOLS/plan" book "$work/full.plan" -o "$work/full.book" || exit 1
 run nodes "$work/full.book"

@@ -126,7 +126,6 @@ function plain_node(parent, is_named,    t, trace) {
 
 function any_node(    parent, kind) {
     parent = any(nodes + 1)
-    if (depth_of[parent] > 40) parent = 0
     kind = any(6)
     if (kind >= 4 && !is_recorded[depth_of[parent]]) record_node(parent, kind == 5)
     else if (kind == 3) equal_node(parent)
