@@ -5,10 +5,10 @@ use leskofar_reference::book::{Section, NUMBER_SIZE};
 use leskofar_reference::image::Kind;
 use std::ops::Range;
 
-pub const KIND_AT: usize = 0;
-pub const NODE_AT: usize = KIND_AT + NUMBER_SIZE;
-pub const GOAL_AT: usize = NODE_AT + NUMBER_SIZE;
-pub const OWED_AT: usize = GOAL_AT + NUMBER_SIZE;
+const KIND_AT: usize = 0;
+const NODE_AT: usize = KIND_AT + NUMBER_SIZE;
+const GOAL_AT: usize = NODE_AT + NUMBER_SIZE;
+const OWED_AT: usize = GOAL_AT + NUMBER_SIZE;
 pub const LEVELS_AT: usize = OWED_AT + NUMBER_SIZE;
 /// The numbers of the head, each with its name.
 pub const HEAD: [(&str, usize); 4] = [
@@ -38,7 +38,7 @@ const fn places(start: usize, section: Section) -> Range<usize> {
 }
 
 /// The bytes of a level.
-pub const fn level_size(kind: Kind) -> usize {
+const fn level_size(kind: Kind) -> usize {
     match kind {
         Kind::Narrow => 1,
         Kind::Wide => 2,
@@ -46,7 +46,7 @@ pub const fn level_size(kind: Kind) -> usize {
 }
 
 /// The bytes of some levels.
-pub fn bytes_of(kind: Kind, places: Range<usize>) -> Range<usize> {
+fn bytes_of(kind: Kind, places: Range<usize>) -> Range<usize> {
     let size = level_size(kind);
     LEVELS_AT + places.start * size..LEVELS_AT + places.end * size
 }

@@ -16,6 +16,8 @@ const LANDED_SIZE: usize = 1_616;
 const WIDE_SIZE: usize = 3_216;
 const HEAD_SIZE: usize = 16;
 const WIDE_KIND: u8 = 2;
+/// The first byte of the constants' levels.
+const FIRST_CONSTANT: usize = 80;
 /// More than any text or reason here has.
 const ROOM: usize = 1 << 12;
 
@@ -67,7 +69,8 @@ fn of_the_sample() -> Vec<Landed> {
 /// On a chain as deep as there could be one, each node with a constant: the
 /// levels 1 to 64 from the constants' first place on, and a reply owed.
 fn of_the_deepest() -> Landed {
-    let levels = (1..=NARROW_DEPTH as u8).map(|level| (79 + usize::from(level), level));
+    let levels =
+        (1..=NARROW_DEPTH as u8).map(|level| (FIRST_CONSTANT - 1 + usize::from(level), level));
     Landed {
         name: "64 deep, a reply owed",
         bytes: [(0, 1), (4, 64), (8, 64), (12, 1)]

@@ -39,8 +39,9 @@ const NEGATIVES: [usize; 2] = [0, 16];
 const CHECK: &str = "(check-sat)\n";
 /// Beside the refusals' numbers: a stop, and 0 for an output without either.
 const STOP: u32 = 100;
-/// What random books and calls meet always; at times a text is too long.
+/// What random books and calls meet always, and at times: a text that is too long.
 const RANDOM: [u32; 9] = [0, 2, 3, 4, 5, 6, 7, 9, STOP];
+const AT_TIMES_MET: [u32; 1] = [10];
 
 pub fn input(book: &[u8], calls: &[[u32; 3]]) -> Vec<u8> {
     let mut input = (book.len() as u32).to_le_bytes().to_vec();
@@ -259,6 +260,6 @@ pub fn run(tally: &mut Tally) {
             }
             compare(&bytes, &mut met)?;
         }
-        met.all_of(&RANDOM)
+        met.only_or(&RANDOM, &AT_TIMES_MET)
     });
 }

@@ -71,7 +71,13 @@ impl<K: Copy + Display + Ord> Met<K> {
 
     /// Fails if one of them was never met, or another was.
     pub fn only(&self, keys: &[K]) -> Result<String, String> {
-        match self.0.keys().find(|key| !keys.contains(key)) {
+        self.only_or(keys, &[])
+    }
+
+    /// The same, but for those that may be met and need not.
+    pub fn only_or(&self, keys: &[K], may: &[K]) -> Result<String, String> {
+        let is_known = |key: &&K| keys.contains(key) || may.contains(key);
+        match self.0.keys().find(|key| !is_known(key)) {
             Some(key) => Err(format!("{key} was met")),
             None => self.all_of(keys),
         }

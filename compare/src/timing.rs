@@ -8,7 +8,7 @@ const ROUNDS: usize = 40;
 const ROUND: Duration = Duration::from_millis(5);
 /// Long calls get fewer rounds, once so much time has gone by.
 const FEWEST_ROUNDS: usize = 3;
-const PATIENCE: Duration = Duration::from_secs(10);
+const PATIENCE: Duration = Duration::from_secs(6);
 
 /// The time of one call, of so many.
 fn time_of(times: usize, call: &mut dyn FnMut()) -> Duration {

@@ -8,7 +8,7 @@ use crate::turn_call::{Given, Turn, Turned, TurnsMet, TURNS};
 use leskofar_reference::book::Section;
 use leskofar_reference::book_test::{MOST_DEPTH, SCRATCH_SIZE};
 use leskofar_reference::image::{Kind, IMAGE_SIZE, NARROW_SIZE};
-use leskofar_reference::maker::sample;
+use leskofar_reference::maker::{sample, Maker};
 use leskofar_reference::refusal::{CONTENTS, DEPTH, SCRATCH_SHORT, SESSION, TOO_DEEP_FOR_NARROW};
 
 /// Scratches around the least one that is taken, and a longer one.
@@ -70,7 +70,9 @@ fn order_groups(tally: &mut Tally) {
     tally.group("turns, every scratch", || {
         let mut met = TurnsMet::default();
         let deep = chain(MOST_DEPTH).book();
-        for book in [&sample().maker.book(), &deep] {
+        // The least book has the root alone.
+        let least = Maker::default().book();
+        for book in [&least, &sample().maker.book(), &deep] {
             for scratch in SCRATCHES {
                 compare_all(book, scratch, &mut met)?;
             }

@@ -14,15 +14,15 @@ use leskofar_reference::image::{Kind, Owed};
 use leskofar_reference::refusal::{SESSION, TOO_DEEP_FOR_NARROW};
 use leskofar_reference::turns::NARROW_DEPTH;
 
-/// Depths at the borders: of a narrow session, of a byte, of a narrow session
-/// and a byte more, and of a book.
+/// Depths at the borders: of a narrow session, of a byte's high bit, of a byte,
+/// of what a byte would cut to 64, and of a book.
 const DEPTHS: [usize; 20] = [
     0, 1, 63, 64, 65, 66, 127, 128, 129, 254, 255, 256, 257, 319, 320, 321, 322, 398, 399, 400,
 ];
 /// Levels at those borders.
 const LEVELS: [usize; 8] = [1, 63, 64, 65, 255, 256, 257, 400];
 /// A depth where a session has no place in the narrow kind, whatever it stores.
-const TOO_DEEP: usize = 80;
+const DEEP: usize = 80;
 /// More than any text or reason here has.
 const ROOM: usize = 1 << 16;
 
@@ -113,11 +113,11 @@ fn depth_groups(tally: &mut Tally) {
     });
     tally.group("turns, 80 deep with nothing declared below level 1", || {
         let mut met = TurnsMet::default();
-        let chain = declaring(TOO_DEEP, [1]);
+        let chain = declaring(DEEP, [1]);
         let book = &chain.maker.book();
         for owed in [Owed::Nothing, Owed::Reply, Owed::Model] {
             let [narrow, wide] =
-                [Kind::Narrow, Kind::Wide].map(|kind| image_at(&chain, TOO_DEEP, owed, kind));
+                [Kind::Narrow, Kind::Wide].map(|kind| image_at(&chain, DEEP, owed, kind));
             Turn::Narrow.expect(book, &wide, Turned::Refused(TOO_DEEP_FOR_NARROW), &mut met)?;
             Turn::Widen.expect(book, &narrow, Turned::Refused(SESSION), &mut met)?;
         }

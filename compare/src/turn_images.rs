@@ -21,7 +21,7 @@ const LONGER: usize = 3;
 /// Depths of sessions whose images are damaged at random, and how often each.
 const DEPTHS: [usize; 5] = [1, 64, 65, 256, MOST_DEPTH];
 const DAMAGES: usize = 60;
-/// How often each byte of a head is changed in those.
+/// What each byte of a head is changed by in those.
 const HEAD_CHANGES: [u8; 4] = [1, 2, 0x80, 0xFF];
 
 /// The sample's wide images, and the same as narrow ones.
@@ -132,7 +132,7 @@ fn length_groups(tally: &mut Tally) {
 }
 
 /// The head's bytes changed one by one, and random damages, of one session in
-/// both kinds; and a call on each of the wide ones.
+/// both kinds; and a reply on each of them.
 fn damage(
     random: &mut Random,
     chain: &Chain,

@@ -21,6 +21,7 @@ use leskofar_reference::image::{Kind, Owed};
 use leskofar_reference::maker::Maker;
 use leskofar_reference::random::{Random, AT_TIMES, HARDLY_EVER, OFTEN, RARELY};
 use leskofar_reference::random_books::{random_book, Counts};
+use leskofar_reference::refusal::TOO_DEEP_FOR_NARROW;
 use leskofar_reference::turns::NARROW_DEPTH;
 use std::iter::successors;
 
@@ -43,7 +44,6 @@ const SCRATCHES: [usize; 4] = [0, SCRATCH_SIZE - 1, SCRATCH_SIZE + 1, SCRATCH_SI
 const BYTE: usize = u8::MAX as usize;
 /// What both turns answer, and what only the turn back does.
 const ANSWERS: [u32; 8] = [0, 1, 2, 3, 4, 5, 6, 20];
-const TOO_DEEP: u32 = 24;
 
 const LARGE_NUMBER: &str = "a node's number above 64 and its depth not";
 const SMALL_LEVELS: &str = "deeper than 64 with levels up to 64";
@@ -249,7 +249,7 @@ pub fn run(tally: &mut Tally) {
         met.calls.results.all_of(&RESULTS)?;
         met.images.all_of(&manners())?;
         let shapes = met.shapes.only(&EVERYTHING)?;
-        let narrow = [&ANSWERS[..], &[TOO_DEEP]].concat();
+        let narrow = [&ANSWERS[..], &[TOO_DEEP_FOR_NARROW]].concat();
         let turns = met.turns.only(&ANSWERS, &narrow)?;
         Ok(format!("{lists} lists, {turns}, met: {shapes}"))
     });

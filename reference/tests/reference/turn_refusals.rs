@@ -22,7 +22,7 @@ fn each_kind_is_taken_by_its_own_turn() {
     let [wide, narrow] = [wide(0, &[]), of_narrow(0, &[])];
     assert_eq!(widened(&book, &wide), Err(SESSION));
     assert_eq!(narrowed(&book, &narrow), Err(SESSION));
-    // With the other's number or the other's length.
+    // With the other's number, and with one of no kind.
     for kind in [0, 1, 3, 255] {
         let mut image = wide.clone();
         image[0] = kind;
@@ -68,7 +68,8 @@ fn twenty_is_for_images_of_no_session() {
         let mut changed = image.clone();
         changed[GOAL] = sample.maker.terms.len() as u8;
         assert_eq!(turn(&book, &changed), Err(SESSION));
-        for length in [0, 1, LEVELS, image.len() - 1, image.len() + 1] {
+        let other = NARROW_SIZE + WIDE_SIZE - image.len();
+        for length in [0, 1, LEVELS, other, image.len() - 1, image.len() + 1] {
             let mut changed = image.clone();
             changed.resize(length, 0);
             assert_eq!(turn(&book, &changed), Err(SESSION));
