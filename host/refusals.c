@@ -37,7 +37,7 @@ const char *refusal_meaning(uint32_t refusal) {
     case LESKOFAR_NO_MODEL_OWED:
         return "a model is given and none is owed";
     case LESKOFAR_TOO_DEEP_FOR_NARROW:
-        return "the session is deeper than 64, which one of the narrow kind cannot be";
+        return "the session to be turned back is deeper than 64";
     }
     return "a number that no refusal has";
 }

@@ -96,10 +96,7 @@ leskofar_printed leskofar_listing(const uint8_t *book, size_t book_len, uint8_t 
  */
 leskofar_printed leskofar_operator(uint32_t code, uint8_t *text, size_t text_len);
 
-/*
- * Bytes of a session's image, and of one of the narrow kind, with one byte for each level (docs/SESSION.md). The host keeps the image,
- * and hands it to each call on the session.
- */
+/* Bytes of a session's image, and of one of the narrow kind, with one byte for each level (docs/SESSION.md). */
 #define LESKOFAR_IMAGE 3216
 #define LESKOFAR_NARROW_IMAGE 1616
 

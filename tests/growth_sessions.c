@@ -197,7 +197,7 @@ static int is_fresh_ones(const struct desk *d, uint32_t node) {
     return move_to(&newest, &fresh, node).refusal == LESKOFAR_ACCEPTED && memcmp(fresh.image, d->image, sizeof d->image) == 0;
 }
 
-/* A question at a node while the book grows, from its text to its model, and a node beside it in the end. */
+/* A question at a node, from its text to its model. At a point the book grows meanwhile: gives the node that came beside it, else 0. */
 static uint32_t question_at(struct desk *d, uint32_t node, uint32_t depth, uint32_t truth) {
     static const char two_pops[] = "(pop 1)\n(pop 1)\n";
     char wanted[TEXT_SIZE];

@@ -36,7 +36,7 @@ static void (*const ADD_FAULT[])(struct records *) = {
     [LESKOFAR_TOO_DEEP] = make_too_deep,
 };
 
-/* Each fault by itself, with a session that would turn. */
+/* Each fault by itself, with a session of the book. */
 static void fault_tests(const struct turn *turn, const struct session *s) {
     for (uint32_t refusal = LESKOFAR_COUNT_OVER_LIMIT; refusal <= LESKOFAR_TOO_DEEP; refusal++) {
         small_records(&records);
@@ -94,6 +94,7 @@ static void deep_tests(void) {
         struct session s = session_at(FIRST_DEEP, owed == NOTHING ? 0 : FUNCTION_TERM, owed);
         set_up(&TURN[TURNING_BACK], &s);
         expect("65 deep", is_refused(&desk, &TURN[TURNING_BACK], LESKOFAR_TOO_DEEP_FOR_NARROW));
+        fault_tests(&TURN[TURNING_BACK], &s);
         no_session_tests(&TURN[TURNING_BACK], &s);
         set_up(&TURN[WIDENING], &s);
         order_tests(&TURN[WIDENING]);
@@ -138,6 +139,7 @@ static void null_tests(const struct turn *turn, const struct session *s) {
            turn->call(desk.book, desk.book_len, scratch, LESKOFAR_SCRATCH, NULL, 0, desk.to.at, desk.to_len) == LESKOFAR_NO_SESSION);
     expect("no other image",
            turn->call(desk.book, desk.book_len, scratch, LESKOFAR_SCRATCH, desk.from.at, desk.from_len, NULL, 0) == LESKOFAR_NO_SESSION);
+    expect("and the scratch is cleared", all_are(scratch, LESKOFAR_SCRATCH, 0));
 }
 
 int main(void) {

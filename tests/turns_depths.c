@@ -93,12 +93,16 @@ static struct session session_below(uint32_t node, uint32_t row) {
 
 #define BOOK desk.book, desk.book_len, desk.scratch.at, LESKOFAR_SCRATCH
 
-/* A move, and whether it leaves this session. */
-static int is_moved(uint8_t image[LESKOFAR_IMAGE], const struct session *s) {
+/* Whether an image spells this session. */
+static int is_spelled(const uint8_t image[LESKOFAR_IMAGE], const struct session *s) {
     uint8_t wanted[LESKOFAR_IMAGE];
     spell(wanted, &WIDE, s);
-    return leskofar_move(BOOK, image, LESKOFAR_IMAGE, s->node, text, sizeof text).refusal == LESKOFAR_ACCEPTED &&
-           memcmp(image, wanted, sizeof wanted) == 0;
+    return memcmp(image, wanted, sizeof wanted) == 0;
+}
+
+/* A move, and whether it leaves this session. */
+static int is_moved(uint8_t image[LESKOFAR_IMAGE], const struct session *s) {
+    return leskofar_move(BOOK, image, LESKOFAR_IMAGE, s->node, text, sizeof text).refusal == LESKOFAR_ACCEPTED && is_spelled(image, s);
 }
 
 /* A session that turns either way. */
@@ -216,9 +220,10 @@ static void onward_tests(void) {
     leskofar_answer wanted = leskofar_move(BOOK, own, sizeof own, ROW, own_text, sizeof own_text);
     lay(&desk, &TURN[WIDENING], &s);
     expect("it is widened", is_turned(&desk, &TURN[WIDENING], &s));
-    expect("and goes on", is_moved(desk.to.at, &end));
+    leskofar_answer moved = leskofar_move(BOOK, desk.to.at, LESKOFAR_IMAGE, ROW, text, sizeof text);
+    expect("and goes on", moved.refusal == LESKOFAR_ACCEPTED && is_spelled(desk.to.at, &end));
     expect("to the same image", memcmp(desk.to.at, own, sizeof own) == 0);
-    expect("by the same text", wanted.text > 0 && memcmp(text, own_text, wanted.text) == 0);
+    expect("by the same text", wanted.text > 0 && moved.text == wanted.text && memcmp(text, own_text, wanted.text) == 0);
 }
 
 /* A row of nodes of which only the first declares anything, so that its levels are 1 at most. */

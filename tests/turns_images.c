@@ -80,7 +80,9 @@ static void stop_if(int fault, const char *what) {
 }
 
 static struct pages pages_of(const uint8_t *bytes, size_t length, int rights) {
-    const size_t page = (size_t)sysconf(_SC_PAGESIZE);
+    const long told = sysconf(_SC_PAGESIZE);
+    stop_if(told <= 0, "tell a page's size");
+    const size_t page = (size_t)told;
     const size_t held = (length + page - 1) / page * page;
     struct pages p = {NULL, held + page, NULL};
     p.all = mmap(NULL, p.size, PROT_READ | PROT_WRITE, MAP_PRIVATE | MAP_ANONYMOUS, -1, 0);

@@ -66,14 +66,14 @@ BEGIN {
     last = depth / 2
     QS = MOST_CONSTANTS - (last + 1)
     # Where a session of the narrow kind ends.
-    half_way = 64
+    narrow_end = 64
     plan = to ".plan"
     here = goals = 0
     write_plan()
     write_listing("p" last)
     ask(depth, "p" last)
     ask(depth - 1, "p" last)
-    ask(half_way, "p" half_way / 2)
-    ask(half_way, "p" (half_way / 2 + 1))
+    ask(narrow_end, "p" narrow_end / 2)
+    ask(narrow_end, "p" (narrow_end / 2 + 1))
     ask(depth, "p" last)
 }

@@ -23,6 +23,16 @@ expect_said 'the listing 400 deep' 0 "$(cat "$deep/steps.listing")"
 # What a solver was sent, but for what the host adds.
 script_in() { grep -v '^;\|^(set-option\|^(echo\|^(get-model)$' "$1"; }
 
+# The two that are not proved: at the step before the last, whose trace has all others, and at step 64, with a trace at every second.
+NARROW_TRACES=32
+expect_traces() {
+    sed -n 's/^      \(step [0-9]*\)$/  \1/p' "$out" >"$deep/traced"
+    {
+        sed '$d' "$deep/steps.trace"
+        head -n "$NARROW_TRACES" "$deep/steps.trace"
+    } | cmp -s - "$deep/traced" && passed=$((passed + 1)) || fail "$1" 'other traces'
+}
+
 for solver in z3 cvc5; do
     # The pairs are meant to fall apart.
     # shellcheck disable=SC2086
@@ -33,14 +43,8 @@ for solver in z3 cvc5; do
     script_in "$deep/log" >"$deep/sent"
     cmp -s "$deep/sent" "$deep/steps.script" && passed=$((passed + 1)) ||
         fail "400 steps with $solver" "another text: $(diff "$deep/sent" "$deep/steps.script" | head -5)"
+    expect_traces "400 steps with $solver"
 done
-# The two that are not proved: at the step before the last, whose trace has all others, and at step 64, with a trace at every second.
-HALF_WAY_TRACES=32
-sed -n 's/^      \(step [0-9]*\)$/  \1/p' "$out" >"$deep/traced"
-{
-    sed '$d' "$deep/steps.trace"
-    head -n "$HALF_WAY_TRACES" "$deep/steps.trace"
-} | cmp -s - "$deep/traced" && passed=$((passed + 1)) || fail '400 steps' 'other traces'
 run prove "$book" "$last" "$goal" --premises --show-proof-obligations
 expect '400 steps, premises and listing' 0 ': Proved'
 expect_not '400 steps, premises and listing' 'contradict'
