@@ -1,3 +1,4 @@
+mod ForRoom
 mod NarrowBytes
 mod Behind
 mod OnImages

@@ -1,12 +1,11 @@
 -- The image of the narrow kind, read and written.
 use Prim.Native.Nat.{ℕ, _+_, _-_, _<_}
 use native.Mathlib.Omega.{arith}
-use mathlib.Core.Path.{_≡_, sym, ap, _∙_}
+use mathlib.Core.Path.{_≡_, ap, _∙_}
 use mathlib.Core.Bool.{true, false}
 use mathlib.Core.List.{List}
 use lib.ListN.{length, take, drop, length-drop}
 use lib.Seq.{take-all}
-use borrow.Author.Tests.{eq-eqb, ne-eqb}
 use Rattle.basics.specs.Write.{MOST, Wrote, WroteAt}
 use Rattle.basics.proofs.Laws.{overlay-whole}
 use Rattle.basics.proofs.Places.{at-then, at-whole}
@@ -19,7 +18,6 @@ use Rattle.solvers.specs.Image.{headSize, owedOf, headOf, noSession}
 use Rattle.solvers.specs.Narrow.{narrowSession, narrowOf, narrowKind, narrowSize, writeNarrow, noNarrow, isNarrowImage, readNarrow}
 use Rattle.solvers.proofs.Head.{kind-told}
 use Rattle.solvers.proofs.NarrowImage.{length-narrow}
-use Rattle.narrow_sessions.specs.Turned.{savedNarrow}
 
 pub narrow-long : (image : List ℕ) → isNarrowImage image ≡ true → length image ≡ narrowSize
 unfolding isNarrowImage
@@ -45,23 +43,10 @@ filled image {o} w long room =
     let rest : take (length image - headSize) (drop headSize image) ≡ drop headSize image = take-all (length image - headSize) (drop headSize image) (omega (arith, length-drop headSize image)) in
     w .shown ∙ rw rest (overlay-whole (drop headSize image) o (omega (arith, length-drop headSize image)))
 
--- a buffer of another length
-pub not-saved : (s : NarrowSession) (x : List ℕ) → ¬ (length x ≡ narrowSize) → x ≡ savedNarrow s x
-unfolding savedNarrow
-not-saved s x h = rw (ne-eqb (length x) narrowSize h)
-
-pub saved-whole : (s : NarrowSession) (x : List ℕ) → length x ≡ narrowSize → savedNarrow s x ≡ writeNarrow s
-unfolding savedNarrow
-saved-whole s x h = rw (eq-eqb (length x) narrowSize h)
-
 -- the levels behind the four words
-whole : (s : NarrowSession) (x : List ℕ) {o q : List ℕ} {r1 r : ℕ} → length x ≡ narrowSize → length (s .levels) ≡ levelCount
+pub saved : (s : NarrowSession) (x : List ℕ) {o q : List ℕ} {r1 r : ℕ} → length x ≡ narrowSize → length (s .levels) ≡ levelCount
     → WroteAt (headOf narrowKind (s .node) (s .goal) (s .owed)) 0 x o r1 → WroteAt (s .levels) r1 o q r → q ≡ writeNarrow s
 unfolding writeNarrow
-whole s x long levels w1 w2 =
+saved s x long levels w1 w2 =
     let short : length x < MOST + 1 = omega arith in
     at-whole (at-then short w1 w2) (length-narrow s levels ∙ omega arith)
-
-pub saved : (s : NarrowSession) (x : List ℕ) {o q : List ℕ} {r1 r : ℕ} → length x ≡ narrowSize → length (s .levels) ≡ levelCount
-    → WroteAt (headOf narrowKind (s .node) (s .goal) (s .owed)) 0 x o r1 → WroteAt (s .levels) r1 o q r → q ≡ savedNarrow s x
-saved s x long levels w1 w2 = whole s x long levels w1 w2 ∙ sym (saved-whole s x long)

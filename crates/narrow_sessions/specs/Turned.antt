@@ -15,8 +15,7 @@ use Rattle.book_test.specs.declared.Tested.{Tested}
 use Rattle.solvers.specs.declared.Session.{Session}
 use Rattle.solvers.specs.declared.NarrowSession.{NarrowSession}
 use Rattle.solvers.specs.Calls.{isSession}
-use Rattle.solvers.specs.Image.{imageSize, noSession, readImage}
-use Rattle.solvers.specs.Narrow.{narrowDepth, wideOf, narrowOf, isNarrow, narrowSize, writeNarrow, noNarrow, readNarrow, Turned, answerOf, orElse, TurnLeft}
+use Rattle.solvers.specs.Narrow.{narrowDepth, wideOf, narrowOf, isNarrow, Turned, answerOf, orElse, TurnLeft}
 
 -- the turns behind the book test
 unfoldable pub widenedIn : Book → NarrowSession → Outcome Session
@@ -41,16 +40,9 @@ pub record TurnReturned {S : Type 0} (l : Turned S) (r : Tested) (s : S) (scratc
   pub session : s ≡ l .session
   pub scratch′ : scratch ≡ l .scratch
 
--- where the other buffer has another length than the image's, a session that the turn refuses stands for the one that the image holds
-unfoldable pub narrowFor : (room : ℕ) → List ℕ → NarrowSession
-narrowFor room image = if eqb room imageSize then readNarrow image else noNarrow
-
-unfoldable pub wideFor : (room : ℕ) → List ℕ → Session
-wideFor room image = if eqb room narrowSize then readImage image else noSession
-
--- an image is written where there is room for just that
-unfoldable pub savedNarrow : NarrowSession → List ℕ → List ℕ
-savedNarrow s buffer = if eqb (length buffer) narrowSize then writeNarrow s else buffer
+-- what is taken where there is room for just an image, and what else
+unfoldable pub forRoom : {A : Type 0} → (room size : ℕ) → A → A → A
+forRoom room size fits other = if eqb room size then fits else other
 
 -- an accepted turn finds room for its session's image, and a refused one touches nothing
 pub record Room (r : Tested) (size : ℕ) (buffer : List ℕ) : Type 0 where

@@ -2,8 +2,8 @@
 ghost use mathlib.Core.Path.{_≡_};
 ghost use lib.ListN.{length, drop};
 ghost use Rattle.solvers.specs.Image.{headSize};
-ghost use Rattle.solvers.specs.Narrow.{narrowSize, noNarrow, isNarrowImage, readNarrow};
-ghost use Rattle.narrow_sessions.specs.Turned.{savedNarrow};
+ghost use Rattle.solvers.specs.Narrow.{narrowSize, noNarrow, isNarrowImage, readNarrow, writeNarrow};
+ghost use Rattle.narrow_sessions.specs.Turned.{forRoom};
 use super::levels::no_levels;
 use basics::put_all;
 use basics::put_at;
@@ -74,7 +74,7 @@ pub fn load_narrow(image: &[u8]) -> NarrowSession
 
 // Writes the image where there is room for just that.
 pub fn save_narrow(s: NarrowSession, image: &mut [u8])
-    ensures { λ _. ⌜ now (image .exit) ≡ savedNarrow s (now (image .entry)) ⌝ }
+    ensures { λ _. ⌜ now (image .exit) ≡ forRoom (length (now (image .entry))) narrowSize (writeNarrow s) (now (image .entry)) ⌝ }
 {
     if image.len() != NARROW_IMAGE {
         return;

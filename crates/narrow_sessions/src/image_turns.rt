@@ -2,9 +2,9 @@
 ghost use mathlib.Core.Path.{_≡_};
 ghost use lib.ListN.{length};
 ghost use Rattle.book_test.specs.BookTest.{testedValue};
-ghost use Rattle.solvers.specs.Image.{imageSize, writeImage};
-ghost use Rattle.solvers.specs.Narrow.{narrowSize, writeNarrow, widenedOnImage, narrowedOnImage};
-ghost use Rattle.narrow_sessions.specs.Turned.{narrowFor, wideFor, Room, kept, ImageTurned};
+ghost use Rattle.solvers.specs.Image.{imageSize, writeImage, noSession, readImage};
+ghost use Rattle.solvers.specs.Narrow.{narrowSize, writeNarrow, noNarrow, readNarrow, widenedOnImage, narrowedOnImage};
+ghost use Rattle.narrow_sessions.specs.Turned.{forRoom, Room, kept, ImageTurned};
 use super::image::NARROW_IMAGE;
 use super::image::load_narrow;
 use super::image::no_narrow;
@@ -23,7 +23,7 @@ use solvers::Session;
 // What is turned, by the room in the other buffer. Where that is not an image's, a session that the turn refuses stands for it: so the
 // refusals of the book come first.
 fn narrow_for(image: &[u8], room: usize) -> NarrowSession
-    ensures { λ r. ⌜ r ≡ narrowFor room (now (image .entry)) ⌝ }
+    ensures { λ r. ⌜ r ≡ forRoom room imageSize (readNarrow (now (image .entry))) noNarrow ⌝ }
 {
     if room != IMAGE {
         return no_narrow();
@@ -32,7 +32,7 @@ fn narrow_for(image: &[u8], room: usize) -> NarrowSession
 }
 
 fn wide_for(image: &[u8], room: usize) -> Session
-    ensures { λ r. ⌜ r ≡ wideFor room (now (image .entry)) ⌝ }
+    ensures { λ r. ⌜ r ≡ forRoom room narrowSize (readImage (now (image .entry))) noSession ⌝ }
 {
     if room != NARROW_IMAGE {
         return no_session();
