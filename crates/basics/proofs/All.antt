@@ -21,6 +21,11 @@ pub all-split : {A : Type 0} {P : A → Type 0} (a b : List A) → All P (a ++ b
 all-split [] b h = (end, h)
 all-split (x ∷ a) b (more h hs) = let r = all-split a b hs in (more h (r .0), r .1)
 
+-- what follows from what holds of each
+pub all-weaken : {A : Type 0} {P Q : A → Type 0} → ((x : A) → P x → Q x) → {l : List A} → All P l → All Q l
+all-weaken f end = end
+all-weaken f (more {a = x} h hs) = more (f x h) (all-weaken f hs)
+
 pub all-head : {A : Type 0} {P : A → Type 0} {a : A} {l : List A} → All P (a ∷ l) → P a
 all-head (more h hs) = h
 

@@ -19,3 +19,14 @@ module _ {A : Type 0} {n : ℕ} (P : Outcome A → Type 0) (no : (k : ℕ) → (
   unfolding _>>_
   passing (refused k) rest h f = no k h
   passing (accepted tt) rest h f = f refl
+
+-- a refusal that may be met, and one that is not
+module _ {A : Type 0} (P : Outcome A → Type 0) (k : ℕ) where
+  pub may : (x : Bool) (rest : Outcome A) → P (refused k) → P rest → P (refuse k x >> rest)
+  unfolding refuse _>>_
+  may true rest h r = h
+  may false rest h r = r
+
+  pub past : {x : Bool} (rest : Outcome A) → x ≡ false → P rest → P (refuse k x >> rest)
+  unfolding refuse _>>_
+  past rest e r = rw e r

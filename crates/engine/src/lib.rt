@@ -6,3 +6,6 @@ mod prove;
 pub use context::depth_of;
 pub use context::set_context;
 pub use prove::question;
+
+// Where a fresh session stands.
+pub const ROOT: usize = 0;

@@ -1,4 +1,4 @@
-mod Looking
+pub mod Looking
 pub mod Searching
 mod Going
 mod Declaring

@@ -18,11 +18,11 @@ use Rattle.literals.specs.Literals.{declaresName}
 use Rattle.literals.specs.Search.{literalCount}
 
 module _ (b : Book) where
-  literal-kind : (k : ℕ) → field b terms k 0 ≡ 2 → literalAt b k ≡ some (literalOf b k)
+  pub literal-kind : (k : ℕ) → field b terms k 0 ≡ 2 → literalAt b k ≡ some (literalOf b k)
   unfolding literalAt literalBy kindOf
   literal-kind k e = rw e
 
-  other-kind : (n k : ℕ) → (n ≡ 2 → ⊥) → literalBy b (kindOf n) k ≡ none
+  pub other-kind : (n k : ℕ) → (n ≡ 2 → ⊥) → literalBy b (kindOf n) k ≡ none
   unfolding literalBy kindOf
   other-kind zero k h = refl
   other-kind (suc zero) k h = refl

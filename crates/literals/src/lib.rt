@@ -82,7 +82,7 @@ fn is_named(book: &[u8], t: usize, levels: &[Level]) -> bool
 }
 
 // The literal that term t is prints as a number.
-fn is_tag(book: &[u8], t: usize) -> bool
+pub fn is_tag(book: &[u8], t: usize) -> bool
     requires { ⌜ Promise (now book) × (t < size (now book) terms) × GoodLiteral (now book) t ⌝ }
     ensures { λ r. ⌜ r ≡ isTag (literalOf (now (book .entry)) t) ⌝ }
 {

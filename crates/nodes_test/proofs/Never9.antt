@@ -13,7 +13,7 @@ use Rattle.basics.specs.Buffer.{scratchLeast}
 use Rattle.basics.specs.Outcome.{refused, accepted}
 use Rattle.basics.proofs.All.{all-at, all-true}
 use Rattle.basics.proofs.Bool.{or-second}
-use Rattle.basics.proofs.Refusals.{NotNumber, guarded, passing}
+use Rattle.basics.proofs.Refusals.{NotNumber, guarded, passing, past}
 use Rattle.book.specs.Book.{Book, contexts, size}
 use Rattle.book.specs.Program.{path}
 use Rattle.book.specs.Decode.{program}
@@ -29,7 +29,7 @@ use Rattle.solvers.specs.ByBook.{callByBook, moveByBook}
 use Rattle.solvers.proofs.ByBook.{by-book}
 use Rattle.nodes_test.specs.NodesTest.{couldMove, firstFailing, allInside, nodesMost, nodesIn, nodesTested}
 use Rattle.nodes_test.specs.Reach.{Never9}
-use Rattle.nodes_test.proofs.Outcomes.{past, refused-alike}
+use Rattle.nodes_test.proofs.Outcomes.{refused-alike}
 use Rattle.nodes_test.proofs.First.{first}
 
 -- a move, by the book alone

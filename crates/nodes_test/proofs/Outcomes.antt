@@ -2,7 +2,7 @@
 use Prim.Native.Nat.{ℕ}
 use mathlib.Core.Path.{_≡_, sym, ap}
 use mathlib.Core.Bool.{Bool, true, false, false≢true}
-use Rattle.basics.specs.Outcome.{Outcome, refused, accepted, refuse, _>>_, mapOutcome}
+use Rattle.basics.specs.Outcome.{Outcome, refused, accepted, mapOutcome}
 
 isAccepted : {A : Type 0} → Outcome A → Bool
 isAccepted (refused k) = false
@@ -11,11 +11,6 @@ isAccepted (accepted a) = true
 pub not-both : {A : Type 0} {k : ℕ} {a : A} → refused k ≡ accepted a → ⊥
 unfolding isAccepted
 not-both e = false≢true (ap isAccepted e)
-
--- what holds behind a refusal that is not met
-pub past : {A : Type 0} (P : Outcome A → Type 0) (k : ℕ) {x : Bool} (rest : Outcome A) → x ≡ false → P rest → P (refuse k x >> rest)
-unfolding refuse _>>_
-past P k rest e h = rw e h
 
 -- an answer by its values is refused as the outcome is
 pub refused-alike : {A B : Type 0} (f : A → B) (o : Outcome A) {k : ℕ} → mapOutcome f o ≡ refused k → o ≡ refused k

@@ -11,6 +11,7 @@ use book::count;
 use book::format::CONTEXTS;
 use book_test::Tested;
 use book_test::book_test;
+use engine::ROOT;
 use engine::set_context;
 use number_lists::number_at;
 use number_lists::number_count;
@@ -25,9 +26,6 @@ pub enum NodesTested {
 
 // The most nodes that a list may have.
 const NODES_MOST: usize = 512;
-
-// Where a fresh session stands.
-const ROOT: usize = 0;
 
 fn all_inside(book: &[u8], nodes: &[u8]) -> bool
     requires { ⌜ Promise (now book) ⌝ }

@@ -9,7 +9,7 @@ use book::word;
 const WORD: usize = 4;
 
 // What stands for a number that is cut short: one more than 32 bits hold.
-const CUT: usize = 0x100000000;
+pub const CUT: usize = 0x100000000;
 
 // One that is cut short counts.
 pub fn number_count(list: &[u8]) -> usize

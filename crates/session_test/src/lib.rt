@@ -7,15 +7,13 @@ ghost use Rattle.solvers.specs.Calls.{goalFits, isSession};
 use book::count;
 use book::format::CONTEXTS;
 use book::format::TERMS;
+use engine::ROOT;
 use engine::set_context;
 use session_levels::Level;
 use session_levels::blank;
 use session_levels::same;
 use solvers::Owed;
 use solvers::Session;
-
-// Where a fresh session stands.
-const ROOT: usize = 0;
 
 // The goal where no question is open.
 const NO_GOAL: usize = 0;

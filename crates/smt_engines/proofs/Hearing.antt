@@ -6,7 +6,7 @@ use lib.Dec.{eqb}
 use borrow.Author.Tests.{not-true}
 use Rattle.basics.specs.Text.{Text, newline, same}
 use Rattle.basics.proofs.Bool.{and-both}
-use Rattle.basics.proofs.All.{All, end, more}
+use Rattle.basics.proofs.All.{All, end, more, all-weaken}
 use Rattle.basics.proofs.Clean.{clean, Clean}
 use Rattle.smt_engines.specs.SmtEngines.{CMD_PUSH, CMD_POP, CMD_CHECK_SAT, CMD_GET_MODEL}
 use Rattle.smt_engines.specs.Command.{Command, Push, Pop, CheckSat, GetModel, commandToString, script}
@@ -42,7 +42,7 @@ unfolding lines
 lines-append [] b = refl
 lines-append (c ∷ a) b = ap {B = List Text} (λ r. commandToString c ∷ r) (lines-append a b)
 
-hear-append : (r : Reader) (a b : List Text) → hearAll r (a ++ b) ≡ hearAll (hearAll r a) b
+pub hear-append : (r : Reader) (a b : List Text) → hearAll r (a ++ b) ≡ hearAll (hearAll r a) b
 unfolding hearAll
 hear-append r [] b = refl
 hear-append r (l ∷ a) b = hear-append (hear r l) a b
@@ -89,8 +89,7 @@ unfolding hears hearAll hear kind same hearKind lines commandToString CMD_PUSH C
 hears-model st = refl
 
 pub all-whole : {cs : List Command} → All Plain cs → All Whole cs
-all-whole end = end
-all-whole (more h t) = more (h .one) (all-whole t)
+all-whole = all-weaken (λ c h. h .one)
 
 pub whole-push : Whole Push
 unfolding commandToString CMD_PUSH CMD_POP CMD_CHECK_SAT CMD_GET_MODEL

@@ -22,7 +22,7 @@ use Rattle.solvers.specs.Session.{Written}
 use Rattle.solvers.specs.Calls.{Call, call}
 
 -- ---- from the first book to the newest
-newest-grows : (b : Book) → bookTest b ≡ accepted tt → (x : Lent) (o : Outcome Book) → write b x ≡ o → Grows b (newest b o)
+pub newest-grows : (b : Book) → bookTest b ≡ accepted tt → (x : Lent) (o : Outcome Book) → write b x ≡ o → Grows b (newest b o)
 unfolding newest
 newest-grows b ok x (refused k) e = grows-refl b ok
 newest-grows b ok x (accepted c) e = write-grows b x c e

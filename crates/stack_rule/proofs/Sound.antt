@@ -32,7 +32,7 @@ unfolding newest
 grown-sound t u k x (refused n) e = passed k
 grown-sound t u k x (accepted c) e = passed (carries-grown t u k (write-grows (t .book) x c e))
 
-unwritten : (b : Book) → Refused (bookTest b) → (x : Lent) (o : Outcome Book) → write b x ≡ o → newest b o ≡ b
+pub unwritten : (b : Book) → Refused (bookTest b) → (x : Lent) (o : Outcome Book) → write b x ≡ o → newest b o ≡ b
 unfolding newest
 unwritten b h x (refused n) e = refl
 unwritten b h x (accepted c) e = absurd (subst Refused (write-grows b x c e .before) h)

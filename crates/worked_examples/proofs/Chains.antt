@@ -15,7 +15,7 @@ use Rattle.basics.specs.Bytes.{row}
 use Rattle.basics.specs.Outcome.{Outcome, refused, accepted, refuse, _>>_}
 use Rattle.basics.proofs.Bool.{and-both, both-and}
 use Rattle.basics.proofs.Counting.{below-all}
-use Rattle.basics.proofs.All.{All, end, more, all-append}
+use Rattle.basics.proofs.All.{All, end, more, all-append, all-weaken}
 use Rattle.book.specs.Book.{Book, names, axioms, terms, contexts, size, field, depthMost}
 use Rattle.book.specs.Laid.{sectionAt, sectionCount}
 use Rattle.book.specs.Decode.{kindOf}
@@ -91,13 +91,9 @@ module _ (n : ℕ) where
       let e : map termOf (joinBelow m nodeReference ++ (reference n m ∷ [])) ≡ map termOf (joinBelow m nodeReference) ++ (m ∷ []) = map-append termOf (joinBelow m nodeReference) (reference n m ∷ []) in
       record {
         smaller = smaller-append (joinBelow m nodeReference) (nodeReference m) (r .smaller) (rw (lt-ltb m n h));
-        low = rw e (all-append (all-weaken (r .low)) (more {a = m} (omega arith) end));
+        low = rw e (all-append (all-weaken {P = λ y. y < m} {Q = λ y. y < suc m} (λ y l. omega arith) (r .low)) (more {a = m} (omega arith) end));
         once = rw e (once-behind m (r .low) (r .once));
       }
-    where
-      all-weaken : {ys : List ℕ} → All (λ y. y < m) ys → All (λ y. y < suc m) ys
-      all-weaken end = end
-      all-weaken (more {a = y} l ls) = more {a = y} (omega arith) (all-weaken ls)
 
 word : (x : ℕ) {xs : List ℕ} → x < 2 ^ 32 → Words xs → Words (x ∷ xs)
 word x l ls = more l ls
