@@ -1,7 +1,7 @@
 -- The number of each refusal in documents 01 and 02.
 use Prim.Native.Nat.{ℕ}
 use Rattle.book.specs.declared.Refusal.{Refusal}
-use Rattle.book.specs.declared.Refusal.the-variants.{ShortScratch, BadContents, CountOverLimit, FieldOutOfRange, NoForest, TooDeep, NotInBook, ReplyIsUnsat, MissingAxiom, BufferTooShort, NoOperator, NoSession, QuestionOpen, NoReplyOwed, NoModelOwed, TooDeepForNarrow}
+use Rattle.book.specs.declared.Refusal.the-variants.{ShortScratch, BadContents, CountOverLimit, FieldOutOfRange, NoForest, TooDeep, NotInBook, ReplyIsUnsat, MissingAxiom, BufferTooShort, NoOperator, NoSession, QuestionOpen, NoReplyOwed, NoModelOwed, TooDeepForNarrow, TagInBook, ForeignLine, ChecksDiffer}
 
 unfoldable pub number : Refusal → ℕ
 number ShortScratch = 1
@@ -20,3 +20,6 @@ number QuestionOpen = 21
 number NoReplyOwed = 22
 number NoModelOwed = 23
 number TooDeepForNarrow = 24
+number TagInBook = 25
+number ForeignLine = 26
+number ChecksDiffer = 27

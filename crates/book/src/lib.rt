@@ -30,6 +30,9 @@ pub enum Refusal {
     NoReplyOwed,
     NoModelOwed,
     TooDeepForNarrow,
+    TagInBook,
+    ForeignLine,
+    ChecksDiffer,
 }
 
 // A number has four bytes, an entry of the table of contents two numbers.

@@ -10,6 +10,8 @@ use Rattle.basics.specs.Outcome.{Outcome, refused, accepted}
 use Rattle.solvers.specs.Left.{Values, written, proved, unproved}
 use Rattle.solvers.specs.Image.{imageSize}
 use Rattle.book_writer.specs.Writing.{Numbers}
+use Rattle.audit.specs.Audit.{Verdict, agrees, differsAt}
+use Rattle.leskofar.specs.declared.audit_call.AuditAnswered.{AuditAnswered}
 use Rattle.leskofar.specs.declared.node_calls.NodesAnswered.{NodesAnswered}
 use Rattle.leskofar.specs.declared.print_calls.Told.{Told}
 use Rattle.leskofar.specs.declared.session_calls.Answered.{Answered}
@@ -30,6 +32,12 @@ unfoldable pub nodesAnswered : Outcome (Option ℕ) → NodesAnswered
 nodesAnswered (refused n) = record { refusal = n; result = 0; position = 0 }
 nodesAnswered (accepted none) = record { refusal = 0; result = 0; position = 0 }
 nodesAnswered (accepted (some position)) = record { refusal = 0; result = 1; position = position }
+
+-- the same of an audit, with the first check-sat that differs, counted from 1; 0 where none does
+unfoldable pub auditAnswered : Outcome Verdict → AuditAnswered
+auditAnswered (refused n) = record { refusal = n; differs = 0 }
+auditAnswered (accepted agrees) = record { refusal = 0; differs = 0 }
+auditAnswered (accepted (differsAt k)) = record { refusal = 0; differs = k }
 
 -- a flag is any number, 0 or not 0
 abbrev pub flag : ℕ → Bool

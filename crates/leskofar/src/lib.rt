@@ -5,11 +5,14 @@ ghost use Rattle.leskofar.specs.Exports.{refusalOf};
 use book_test::Tested;
 use refusal_numbers::number;
 
+mod audit_call;
 mod node_calls;
 mod print_calls;
 mod session_calls;
 mod writer_calls;
 
+pub use audit_call::AuditAnswered;
+pub use audit_call::leskofar_audit;
 pub use node_calls::NodesAnswered;
 pub use node_calls::leskofar_nodes_test;
 pub use print_calls::Told;

@@ -23,5 +23,8 @@ pub fn number(why: Refusal) -> u32
         Refusal::NoReplyOwed => 22,
         Refusal::NoModelOwed => 23,
         Refusal::TooDeepForNarrow => 24,
+        Refusal::TagInBook => 25,
+        Refusal::ForeignLine => 26,
+        Refusal::ChecksDiffer => 27,
     }
 }

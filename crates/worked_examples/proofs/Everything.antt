@@ -40,6 +40,11 @@ use Rattle.solvers.specs.Rule.{standing, settle, nodeCommands, levelsOf, goalSt
 use Rattle.solvers.specs.ByBook.{moveByBook, askByBook, callByBook}
 use Rattle.number_lists.specs.Numbers.{numbers}
 use Rattle.nodes_test.specs.NodesTest.{couldMove, firstFailing, allInside, nodesIn, nodesTested, nodesTestedValue, nodesTestCall}
+use Rattle.command_lines.specs.CommandLines.{isPrinting, markOf, closing, stepOutside, scanByte, scan, isShut, startsWith, opensContext, isContext, isCommand, ended}
+use Rattle.script_checks.specs.ScriptChecks.{isLost, noted, checksFrom, checks, isForeign}
+use Rattle.level_lines.specs.AsOften.{timesIn, evenIn, asOften, sameLevels}
+use Rattle.question_lists.specs.Questions.{questionsOf, numbersOf, isInside, isComplete, stackFor}
+use Rattle.audit.specs.Audit.{hasNoTag, agreeing, verdict, audited, auditCall}
 use Rattle.solvers.specs.Bodies.{onReply, doCall}
 use Rattle.stack_rule.specs.Events.{after, happens, runFrom, start, run, straightTo, straight}
 use Rattle.stack_rule.specs.Bodies.{doIfAccepted, doEvent, doFrom, doAll}
@@ -84,6 +89,11 @@ unfoldable pub reaching : Unit {0}
 unfolding numbers couldMove firstFailing allInside nodesIn nodesTested nodesTestedValue nodesTestCall
 reaching = tt
 
+-- the audit of a foreign script
+unfoldable pub auditing : Unit {0}
+unfolding isPrinting markOf closing stepOutside scanByte scan isShut startsWith opensContext isContext isCommand ended isLost noted checksFrom checks isForeign timesIn evenIn asOften sameLevels questionsOf numbersOf isInside isComplete stackFor hasNoTag agreeing verdict audited auditCall
+auditing = tt
+
 unfoldable pub everything : Unit {0}
-unfolding testing printing sending searching listing calling turning reaching
+unfolding testing printing sending searching listing calling turning reaching auditing
 everything = tt

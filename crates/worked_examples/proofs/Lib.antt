@@ -15,3 +15,5 @@ pub mod Sessions
 pub mod Turns
 pub mod Searches
 pub mod Nodes
+pub mod Audits
+pub mod ForeignLines

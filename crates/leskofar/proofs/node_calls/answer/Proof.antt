@@ -1,4 +1,6 @@
-use mathlib.Core.Path.{sym, ap}
+use Prim.Native.Nat.{ℕ}
+use mathlib.Core.Path.{sym, ap, _∙_}
+use Rattle.basics.specs.Outcome.{refused}
 use Rattle.nodes_test.specs.NodesTest.{nodesTestedValue}
 use Rattle.leskofar.specs.Exports.{nodesAnswered}
 use borrow.Author.Needs.{needs}
@@ -15,7 +17,7 @@ returns-2 c = sym (ap nodesAnswered (ap nodesTestedValue (c .before .t .given .1
 
 returns-3 : tie.Need-returns-3
 unfolding nodesAnswered nodesTestedValue
-returns-3 c = cc
+returns-3 c = ap (λ (n : ℕ). nodesAnswered (refused n)) (c .number .ensures) ∙ sym (ap nodesAnswered (ap nodesTestedValue (c .before .before .t2 .given .1)))
 
 pub answer-spec : {M : Type 1} → statement M
 answer-spec =

@@ -1,3 +1,5 @@
+use Prim.Native.Nat.{ℕ}
+use Rattle.basics.specs.Outcome.{refused}
 use mathlib.Core.Path.{sym, ap, _∙_}
 use Rattle.leskofar.specs.Exports.{answered}
 use Rattle.solvers.specs.Left.{answerValue}
@@ -19,7 +21,7 @@ returns-3 c = c .accepted3 .ensures ∙ sym (ap answered (ap answerValue (c .bef
 
 returns-4 : tie.Need-returns-4
 unfolding answered answerValue
-returns-4 c = cc
+returns-4 c = ap (λ (n : ℕ). answered (refused n)) (c .number .ensures) ∙ sym (ap answered (ap answerValue (c .before .before .a4 .given .1)))
 
 pub answer-spec : {M : Type 1} → statement M
 answer-spec =

@@ -1,0 +1,7 @@
+pub mod Bags
+pub mod Parts
+mod Counting
+mod Ordering
+pub mod Stacks
+pub mod Bytes
+mod Comparing

@@ -1,0 +1,3 @@
+pub mod AsOften
+pub mod LevelLines
+pub mod Bytes

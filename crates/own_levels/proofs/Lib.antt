@@ -1,0 +1,3 @@
+mod Starts
+mod Kept
+mod Own

@@ -1,0 +1,3 @@
+mod Turning
+pub mod Reading
+pub mod Steps
