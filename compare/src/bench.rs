@@ -1,5 +1,6 @@
 //! Speed as a ratio to the reference, both measured in this run.
 
+use crate::bench_audit;
 use crate::bench_listing;
 use crate::bench_nodes;
 use crate::bench_sessions;
@@ -110,4 +111,5 @@ pub fn run() {
     bench_turns::run();
     bench_nodes::run();
     bench_writer::run();
+    bench_audit::run();
 }

@@ -82,7 +82,7 @@ impl Call {
         }
     }
 
-    fn on_library(&self, book: &[u8], b: &mut Buffers) -> Answer {
+    pub fn on_library(&self, book: &[u8], b: &mut Buffers) -> Answer {
         match self {
             Call::Move { node } => library::move_to(book, b, *node),
             Call::Ask { node, goal } => library::ask(book, b, *node, *goal),

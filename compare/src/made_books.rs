@@ -175,9 +175,14 @@ fn faults() -> [fn(&mut Maker); 4] {
 /// The full book with every choice of those faults, and each with a byte too
 /// many, which is 2.
 pub fn faulty_books() -> Vec<Vec<u8>> {
+    each_fault(&full())
+}
+
+/// The same of another book that has nodes.
+pub fn each_fault(good: &Maker) -> Vec<Vec<u8>> {
     let mut books = Vec::new();
     for choice in 0..1 << faults().len() {
-        let mut m = full();
+        let mut m = good.clone();
         for (k, fault) in faults().iter().enumerate() {
             if choice >> k & 1 == 1 {
                 fault(&mut m);

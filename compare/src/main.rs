@@ -4,7 +4,24 @@
 //! measures both instead.
 #![deny(warnings)]
 
+mod audit;
+mod audit_books;
+mod audit_call;
+mod audit_changes;
+mod audit_edges;
+mod audit_library;
+mod audit_lines;
+mod audit_names;
+mod audit_office;
+mod audit_order;
+mod audit_own;
+mod audit_random;
+mod audit_short;
+mod audit_tags;
+mod audit_texts;
+mod audit_wide;
 mod bench;
+mod bench_audit;
 mod bench_listing;
 mod bench_literals;
 mod bench_nodes;
@@ -91,6 +108,59 @@ mod writer_random;
 mod writer_terms;
 
 use std::process::ExitCode;
+use std::sync::atomic::{AtomicUsize, Ordering};
+use std::thread;
+use tally::Tally;
+
+/// What is compared, part by part.
+const PARTS: [fn(&mut Tally); 15] = [
+    book::run,
+    printing::run,
+    listing::run,
+    sessions::run,
+    session_images::run,
+    session_tours::run,
+    session_literals::run,
+    session_names::run,
+    turns::run,
+    negatives::run,
+    strict_lists::run,
+    nodes::run,
+    writer::run,
+    audit::run,
+    script::run,
+];
+
+/// As many parts run at once, each on a stack as large as a program's.
+const AT_ONCE: usize = 2;
+const STACK: usize = 8 << 20;
+
+/// Runs parts, each the next that no one else has begun.
+fn run_parts(next: &AtomicUsize, one_of: usize) -> Tally {
+    let mut tally = Tally::new(one_of);
+    while let Some(part) = PARTS.get(next.fetch_add(1, Ordering::Relaxed)) {
+        part(&mut tally);
+    }
+    tally
+}
+
+fn compare(one_of: usize) -> Tally {
+    let next = AtomicUsize::new(0);
+    thread::scope(|scope| {
+        let run = || {
+            thread::Builder::new()
+                .stack_size(STACK)
+                .spawn_scoped(scope, || run_parts(&next, one_of))
+                .expect("a thread")
+        };
+        let running: Vec<_> = (0..AT_ONCE).map(|_| run()).collect();
+        let mut tally = Tally::new(one_of);
+        for thread in running {
+            tally.add(thread.join().expect("a part that ends"));
+        }
+        tally
+    })
+}
 
 fn main() -> ExitCode {
     let word = std::env::args().nth(1);
@@ -106,22 +176,7 @@ fn main() -> ExitCode {
             return ExitCode::FAILURE;
         }
     };
-    let mut tally = tally::Tally::new(one_of);
-    book::run(&mut tally);
-    printing::run(&mut tally);
-    listing::run(&mut tally);
-    sessions::run(&mut tally);
-    session_images::run(&mut tally);
-    session_tours::run(&mut tally);
-    session_literals::run(&mut tally);
-    session_names::run(&mut tally);
-    turns::run(&mut tally);
-    negatives::run(&mut tally);
-    strict_lists::run(&mut tally);
-    nodes::run(&mut tally);
-    writer::run(&mut tally);
-    script::run(&mut tally);
-    if tally.close() {
+    if compare(one_of).close() {
         ExitCode::SUCCESS
     } else {
         ExitCode::FAILURE

@@ -39,6 +39,12 @@ impl Tally {
         }
     }
 
+    /// Counts what another counted.
+    pub fn add(&mut self, other: Tally) {
+        self.passed += other.passed;
+        self.failed += other.failed;
+    }
+
     /// The closing line, and whether all passed.
     pub fn close(self) -> bool {
         println!("{} passed, {} failed", self.passed, self.failed);
@@ -59,6 +65,13 @@ impl<K> Default for Met<K> {
 impl<K: Copy + Display + Ord> Met<K> {
     pub fn add(&mut self, key: K) {
         *self.0.entry(key).or_default() += 1;
+    }
+
+    /// Adds what another met.
+    pub fn add_all(&mut self, other: &Met<K>) {
+        for (key, times) in &other.0 {
+            *self.0.entry(*key).or_default() += times;
+        }
     }
 
     /// Fails if one of them was never met.

@@ -3,6 +3,8 @@
 #![deny(warnings)]
 
 pub mod attack;
+pub mod audit;
+pub mod audit_samples;
 pub mod book;
 pub mod book_test;
 pub mod chains;
@@ -24,6 +26,7 @@ pub mod random;
 pub mod random_books;
 mod random_terms;
 pub mod refusal;
+pub mod sample_lines;
 pub mod script;
 pub mod session;
 pub mod sexpr;
@@ -34,6 +37,7 @@ pub mod turns;
 pub mod walk;
 pub mod writer;
 
+pub use audit::audit;
 pub use book_test::book_test;
 pub use image::fresh_image;
 pub use listing::listing;

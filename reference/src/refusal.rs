@@ -16,6 +16,9 @@ pub const SOMETHING_OWED: u32 = 21;
 pub const NO_REPLY_OWED: u32 = 22;
 pub const NO_MODEL_OWED: u32 = 23;
 pub const TOO_DEEP_FOR_NARROW: u32 = 24;
+pub const TAG_IN_BOOK: u32 = 25;
+pub const FOREIGN_LINE: u32 = 26;
+pub const CHECKS_DIFFER: u32 = 27;
 
 /// Ends the call with `number` if `fault` holds.
 pub fn refuse_if(fault: bool, number: u32) -> Result<(), u32> {
@@ -45,6 +48,9 @@ pub fn meaning(number: u32) -> &'static str {
         NO_REPLY_OWED => "reply given, none owed",
         NO_MODEL_OWED => "model given, none owed",
         TOO_DEEP_FOR_NARROW => "a session deeper than 64 is to become narrow",
+        TAG_IN_BOOK => "the book of an audit holds a %tag literal",
+        FOREIGN_LINE => "a line of a script is no command of ours, or pops the first level",
+        CHECKS_DIFFER => "a script has more or fewer check-sats than there are questions",
         _ => "no refusal's number",
     }
 }

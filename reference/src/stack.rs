@@ -4,6 +4,7 @@
 use crate::book_test::check;
 use crate::commands::{CMD_CHECK_SAT, CMD_GET_MODEL, CMD_POP, CMD_PUSH, LINE_END};
 use crate::engine::Sets;
+use crate::program::Program;
 use crate::sexpr::SExpr;
 use crate::sink::Sink;
 use crate::walk::Walk;
@@ -72,16 +73,21 @@ pub fn expected_levels(book: &[u8], node: u32, goal: Option<u32>) -> Option<Vec<
     if !program.has_node(node) || goal.is_some_and(|goal| !program.has_term(goal)) {
         return None;
     }
-    let mut walk = Walk::new(&program, Sets::default(), Sink::unlimited());
+    levels_of(&program, node as usize, goal.map(|goal| goal as usize))
+}
+
+/// The same for a node and goal of the program.
+pub fn levels_of(program: &Program, node: usize, goal: Option<usize>) -> Option<Vec<Level>> {
+    let mut walk = Walk::new(program, Sets::default(), Sink::unlimited());
     let mut levels = vec![vec![]];
-    for node in program.path(node as usize) {
+    for node in program.path(node) {
         walk.declare_and_assume(program.node(node)?.expr);
         levels.push(lines(&walk.sent.take()).ok()?);
     }
     if let Some(goal) = goal {
-        walk.declare_symbols_of(goal as usize);
+        walk.declare_symbols_of(goal);
         levels.push(lines(&walk.sent.take()).ok()?);
-        walk.add_assumption(&SExpr::negation(walk.lowered(goal as usize)));
+        walk.add_assumption(&SExpr::negation(walk.lowered(goal)));
         levels.push(lines(&walk.sent.take()).ok()?);
     }
     (!walk.missing_axiom).then_some(levels)

@@ -1,6 +1,9 @@
 //! The reference's own tests.
 #![deny(warnings)]
 
+mod audit;
+mod audit_lines;
+mod audit_refusals;
 mod book_refusals;
 mod call_refusals;
 mod demand_three;

@@ -3,6 +3,7 @@
 
 use crate::desk::{buffer, Desk};
 use crate::naive_nodes::{naive_first_failing, naive_lacks_an_axiom};
+use leskofar_reference::audit_samples::{lacking, lacking_function};
 use leskofar_reference::book::{Section, INT, NO_TERM};
 use leskofar_reference::book_test::{check, MOST_DEPTH, SCRATCH_SIZE};
 use leskofar_reference::engine::REngine;
@@ -48,26 +49,6 @@ pub fn tested(m: &Maker, nodes: &[u32]) -> Option<usize> {
 fn failing(m: &Maker) -> Vec<u32> {
     let nodes = 0..=m.contexts.len() as u32;
     nodes.filter(|node| tested(m, &[*node]).is_some()).collect()
-}
-
-/// A function that an axiom without a term explains.
-fn lacking_function(m: &mut Maker) -> u32 {
-    let f = m.function("f", &[], INT);
-    let missing = m.axiom(None, &[f]);
-    m.explained_by(f, &[missing]);
-    f
-}
-
-/// Node 2 applies a function that lacks its axiom. Node 3 hangs below it, node
-/// 4 beside it, both harmless as node 1, below which they are.
-pub fn lacking() -> Maker {
-    let mut m = Maker::default();
-    let f = lacking_function(&mut m);
-    let terms = [m.boolean(true), m.apply(f, &[]), m.integer(1), m.integer(2)];
-    for (parent, term) in [0, 1, 2, 1].into_iter().zip(terms) {
-        m.context(parent, term);
-    }
-    m
 }
 
 #[test]

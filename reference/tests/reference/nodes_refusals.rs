@@ -3,7 +3,8 @@
 
 use crate::book_refusals::faulty;
 use crate::desk::buffer;
-use crate::nodes::{lacking, list, tested_from};
+use crate::nodes::{list, tested_from};
+use leskofar_reference::audit_samples::lacking;
 use leskofar_reference::book::NUMBER_SIZE;
 use leskofar_reference::book_test::SCRATCH_SIZE;
 use leskofar_reference::maker::{sample, Maker};
