@@ -7,7 +7,7 @@
 /* Far more than the largest book has; whatever is longer is no book, and is not read to its end. */
 enum { BOOK_FILE_MOST = 1 << 20 };
 
-/* False after a complaint. */
-bool book_file_read(const char *path, struct bytes *book);
+/* Where `takes_standard` is given, `-` stands for standard input. False after a complaint. */
+bool book_file_read(const char *path, bool takes_standard, struct bytes *book);
 
 #endif

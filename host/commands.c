@@ -10,12 +10,20 @@
 #include <inttypes.h>
 #include <stdio.h>
 
-bool command_open(struct writer *writer, const char *path) {
+static bool open_book(struct writer *writer, const char *path, bool takes_standard) {
     if (!writer_begin(writer)) {
         complain("the memory does not suffice");
         return false;
     }
-    return book_file_read(path, &writer->book);
+    return book_file_read(path, takes_standard, &writer->book);
+}
+
+bool command_open(struct writer *writer, const char *path) {
+    return open_book(writer, path, false);
+}
+
+bool command_open_input(struct writer *writer, const char *path) {
+    return open_book(writer, path, true);
 }
 
 bool command_accepted(const char *path, uint32_t refusal) {

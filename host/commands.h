@@ -11,6 +11,7 @@ enum status command_print(int count, char **arguments);
 enum status command_trace(int count, char **arguments);
 enum status command_listing(int count, char **arguments);
 enum status command_nodes(int count, char **arguments);
+enum status command_audit(int count, char **arguments);
 enum status command_prove(int count, char **arguments);
 enum status command_new(int count, char **arguments);
 enum status command_append(int count, char **arguments);
@@ -22,8 +23,9 @@ enum status command_work(int count, char **arguments);
 
 /* Helpers of the commands: each is false after a complaint. */
 
-/* A writer with the book of a file. */
+/* A writer with the book of a file; the second lets `-` stand for standard input. */
 bool command_open(struct writer *writer, const char *path);
+bool command_open_input(struct writer *writer, const char *path);
 
 /* Writes a book to a file, whole or not at all. */
 bool command_write(const char *path, const struct bytes *book);

@@ -5,7 +5,14 @@
 #include <stddef.h>
 
 /* Of several the largest is the program's. Each command has its own meaning of 1. */
-enum status { STATUS_DONE = 0, STATUS_NOT_PROVED = 1, STATUS_NOT_REACHED = 1, STATUS_REFUSED = 2, STATUS_SOLVER_FAILED = 3 };
+enum status {
+    STATUS_DONE = 0,
+    STATUS_NOT_PROVED = 1,
+    STATUS_NOT_REACHED = 1,
+    STATUS_REJECTED = 1,
+    STATUS_REFUSED = 2,
+    STATUS_SOLVER_FAILED = 3
+};
 
 /* Prints a line, as printf does, with the program's name before it. */
 void complain(const char *format, ...);

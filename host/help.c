@@ -8,6 +8,8 @@ const char HELP_PROGRAM[] =
     "  trace BOOK NODE                       print the traces on the way to a node\n"
     "  listing BOOK NODE TERM                print a node's premises and a goal\n"
     "  nodes BOOK [NODE ..]                  test whether nodes can be reached\n"
+    "  audit BOOK SCRIPT NODE TERM [NODE TERM ..]\n"
+    "                                        test a script of another writer\n"
     "  prove BOOK NODE TERM [NODE TERM ..]   ask a solver whether terms follow at nodes\n"
     "  new -o BOOK                           write a book without records\n"
     "  append WHAT BOOK .. -o NEW            append a name, constant, term or node\n"
@@ -20,8 +22,8 @@ const char HELP_PROGRAM[] =
     "\n"
     "leskofar COMMAND --help says more of each.\n"
     "\n"
-    "Exit status: 0 done, and all proved or reached; 1 something is not; 2 refused,\n"
-    "or wrong usage; 3 the solver failed. Of several the largest is given.\n";
+    "Exit status: 0 done, and all proved, reached or accepted; 1 something is not;\n"
+    "2 refused, or wrong usage; 3 the solver failed. Of several the largest is given.\n";
 
 const char HELP_CHECK[] =
     "usage: leskofar check BOOK [--raw-names] [--raw-sorts]\n"
@@ -85,6 +87,31 @@ const char HELP_NODES[] =
     "\n"
     "Exit status: 0 all can be reached; 1 one would be refused; 2 refused, or wrong\n"
     "usage.\n";
+
+const char HELP_AUDIT[] =
+    "usage: leskofar audit BOOK SCRIPT NODE TERM [NODE TERM ..]\n"
+    "       leskofar audit BOOK SCRIPT --questions FILE\n"
+    "\n"
+    "Compares a script of another writer with what this program would send. At its\n"
+    "first check-sat it must ask the first question, whether the first TERM follows\n"
+    "at the first NODE, and so on: the levels that are live there must be as many as\n"
+    "ours, and each must have the same lines, each as often, in any order. How the\n"
+    "script comes there, and what it pops in between, is its own affair.\n"
+    "\n"
+    "  --questions FILE   take the questions from FILE, in the lines that plan book\n"
+    "                     --goals prints\n"
+    "\n"
+    "One of BOOK, SCRIPT and FILE may be -, for standard input.\n"
+    "\n"
+    "A rejection names the first check-sat that differs, counted from 1, its line,\n"
+    "and its node and term. A script has at most 65,536 bytes, and each line of it is\n"
+    "(push 1), (pop 1), (check-sat), (get-model), an assert, a declare-fun or a\n"
+    "declare-sort; else it is refused, and the first other line is told. So is a file\n"
+    "of prove --log, which has options, marks and comments. A book with a %tag\n"
+    "literal is refused. No solver is started, and neither names nor sorts are\n"
+    "checked.\n"
+    "\n"
+    "Exit status: 0 accepted; 1 rejected; 2 refused, or wrong usage.\n";
 
 const char HELP_PROVE[] =
     "usage: leskofar prove BOOK NODE TERM [NODE TERM ..] [OPTIONS]\n"

@@ -8,6 +8,7 @@ extern const char HELP_PRINT[];
 extern const char HELP_TRACE[];
 extern const char HELP_LISTING[];
 extern const char HELP_NODES[];
+extern const char HELP_AUDIT[];
 extern const char HELP_PROVE[];
 extern const char HELP_NEW[];
 extern const char HELP_APPEND[];

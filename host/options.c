@@ -6,7 +6,7 @@
 #include <inttypes.h>
 #include <string.h>
 
-static bool is_number(const char *text, size_t length, uint64_t *number) {
+bool options_digits(const char *text, size_t length, uint64_t *number) {
     uint64_t value = 0;
     for (size_t i = 0; i < length; i++) {
         if (text[i] < '0' || text[i] > '9') {
@@ -23,7 +23,7 @@ static bool is_number(const char *text, size_t length, uint64_t *number) {
 }
 
 bool options_number(const char *text, const char *what, uint64_t least, uint64_t most, uint64_t *number) {
-    if (is_number(text, strlen(text), number) && *number >= least && *number <= most) {
+    if (options_digits(text, strlen(text), number) && *number >= least && *number <= most) {
         return true;
     }
     complain("%s is a number from %" PRIu64 " to %" PRIu64 ", not %s", what, least, most, text);
@@ -48,7 +48,7 @@ static bool take_list(const struct option *option, const char *value) {
     for (const char *from = value; has_more;) {
         size_t length = strcspn(from, ",");
         uint64_t number = 0;
-        if (!is_number(from, length, &number) || number > UINT32_MAX) {
+        if (!options_digits(from, length, &number) || number > UINT32_MAX) {
             complain("%s is a row of numbers from 0 to %" PRIu32 " with commas between them, not %s", option->name, UINT32_MAX, value);
             return false;
         }

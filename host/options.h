@@ -24,6 +24,9 @@ struct operands {
 /* Takes the options out of the arguments, whose row then holds the operands. False after a complaint. */
 bool options_read(int count, char **arguments, const struct option *options, size_t option_count, struct operands *operands);
 
+/* Whether so many letters are the digits of a number of 64 bits, which is then given. */
+bool options_digits(const char *text, size_t length, uint64_t *number);
+
 /* A number in digits from `least` to `most`; false after a complaint that calls it `what`. */
 bool options_number(const char *text, const char *what, uint64_t least, uint64_t most, uint64_t *number);
 

@@ -3,12 +3,8 @@
 #define PROVE_H
 
 #include "conversation.h"
+#include "questions.h"
 #include "writer.h"
-
-struct question {
-    uint32_t node;
-    uint32_t term;
-};
 
 enum verdict {
     VERDICT_PROVED,  /* the solver replied unsat */

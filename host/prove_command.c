@@ -2,45 +2,24 @@
 
 #include "book_view.h"
 #include "inquiry.h"
+#include "questions.h"
 #include "report.h"
 #include "sorts.h"
 
 #include <inttypes.h>
-#include <stdlib.h>
 
 static const char USAGE[] = "usage: leskofar prove BOOK NODE TERM [NODE TERM ..] [OPTIONS]";
 
 /* What the command is asked for. */
 struct request {
     const char *book;
-    struct question *questions;
-    size_t count;
+    struct bytes questions;
     struct inquiry inquiry;
     bool asks_premises;
     bool is_quiet;
 };
 
 enum { OPTION_COUNT = INQUIRY_OPTIONS + 2 };
-
-/* The questions: pairs of numbers behind the book. */
-static bool read_questions(const struct operands *operands, struct request *request) {
-    request->count = (operands->count - 1) / 2;
-    request->questions = calloc(request->count, sizeof request->questions[0]);
-    if (request->questions == NULL) {
-        complain("the memory does not suffice");
-        return false;
-    }
-    for (size_t i = 0; i < request->count; i++) {
-        char **pair = operands->at + 1 + 2 * i;
-        uint64_t node = 0;
-        uint64_t term = 0;
-        if (!options_number(pair[0], "NODE", 0, UINT32_MAX, &node) || !options_number(pair[1], "TERM", 0, UINT32_MAX, &term)) {
-            return false;
-        }
-        request->questions[i] = (struct question){(uint32_t)node, (uint32_t)term};
-    }
-    return true;
-}
 
 static bool read_request(int count, char **arguments, struct request *request) {
     struct operands operands;
@@ -55,7 +34,7 @@ static bool read_request(int count, char **arguments, struct request *request) {
         return false;
     }
     request->book = operands.at[0];
-    return inquiry_has_memory(&request->inquiry) && read_questions(&operands, request);
+    return inquiry_has_memory(&request->inquiry) && questions_of_words(operands.at + 1, operands.count - 1, &request->questions);
 }
 
 /* The question, and before it, where that is wanted, what its node's premises are worth. */
@@ -75,13 +54,15 @@ static enum status ask_each(const struct request *request, struct premises_known
     struct report report = {.show = show_begin(request->is_quiet),
                             .is_verbose = request->inquiry.is_verbose,
                             .shows_obligations = request->inquiry.shows_obligations};
+    size_t count = questions_count(&request->questions);
     bool goes_on = true;
-    for (size_t i = 0; goes_on && i < request->count; i++) {
-        report_question(&report, prover->writer, &request->questions[i]);
-        show_count(&report.show, i, request->count);
+    for (size_t i = 0; goes_on && i < count; i++) {
+        struct question question = question_at(&request->questions, i);
+        report_question(&report, prover->writer, &question);
+        show_count(&report.show, i, count);
         goes_on = show_flush();
         if (goes_on) {
-            ask(request, known, prover, &report, &request->questions[i]);
+            ask(request, known, prover, &report, &question);
             goes_on = show_flush() && log_is_written(prover->talk.log);
         }
     }
@@ -99,8 +80,9 @@ static enum status ask_all(const struct request *request, struct premises_known 
 
 /* What is asked must be able to be true or false. A term that is not in the book is left to the library, which refuses it. */
 static bool are_truths(const struct request *request, const struct bytes *book) {
-    for (size_t i = 0; i < request->count; i++) {
-        uint32_t term = request->questions[i].term;
+    size_t count = questions_count(&request->questions);
+    for (size_t i = 0; i < count; i++) {
+        uint32_t term = question_at(&request->questions, i).term;
         if (term < book_count(book, SECTION_TERMS) && !sorts_is_truth(book, term)) {
             complain("%s: %sterm %" PRIu32 " is asked, and is no truth value", request->book,
                      request->inquiry.raw_sorts ? "warning: " : "", term);
@@ -133,7 +115,7 @@ enum status command_prove(int count, char **arguments) {
         command_accepted(request.book, writer_test_book(&writer)) && is_sound(&request, &known, &writer.book)) {
         status = ask_all(&request, &known, &writer);
     }
-    free(request.questions);
+    bytes_free(&request.questions);
     writer_free(&writer);
     return show_end() || status > STATUS_REFUSED ? status : STATUS_REFUSED;
 }

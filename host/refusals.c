@@ -38,6 +38,12 @@ const char *refusal_meaning(uint32_t refusal) {
         return "a model is given and none is owed";
     case LESKOFAR_TOO_DEEP_FOR_NARROW:
         return "the session to be turned back is deeper than 64";
+    case LESKOFAR_TAG_IN_BOOK:
+        return "the book holds a %tag literal";
+    case LESKOFAR_FOREIGN_LINE:
+        return "a line of the script is no command of ours, or pops the first level";
+    case LESKOFAR_CHECKS_DIFFER:
+        return "the script has more or fewer check-sats than there are questions";
     }
     return "a number that no refusal has";
 }

@@ -81,6 +81,22 @@ uint32_t writer_nodes_test(struct writer *writer, const struct bytes *nodes) {
     return answer.refusal;
 }
 
+uint32_t writer_audit(struct writer *writer, const struct bytes *questions, const struct bytes *script) {
+    leskofar_audited answer =
+        leskofar_audit(BOOK(writer), SCRATCH(writer), questions->at, questions->length, script->at, script->length);
+    writer->differs = answer.differs;
+    return answer.refusal;
+}
+
+/* There is no room for the text, which comes last of all refusals: so the session stays fresh. */
+uint32_t writer_test_question(struct writer *writer, uint32_t node, uint32_t goal) {
+    uint32_t refusal = writer_fresh(writer);
+    if (refusal == LESKOFAR_ACCEPTED) {
+        refusal = leskofar_ask(BOOK(writer), SCRATCH(writer), IMAGE(writer), node, goal, NULL, 0).refusal;
+    }
+    return refusal == LESKOFAR_BUFFER_TOO_SHORT ? LESKOFAR_ACCEPTED : refusal;
+}
+
 /* What was grown becomes the book, and the old book's bytes take the next one. */
 static uint32_t appended(struct writer *writer, leskofar_appended answer) {
     if (answer.refusal == LESKOFAR_ACCEPTED) {

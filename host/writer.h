@@ -16,6 +16,7 @@ struct writer {
     uint8_t image[LESKOFAR_IMAGE];
     uint32_t result;     /* of the last accepted reply or model, as enum leskofar_result has it; of nodes as enum leskofar_nodes_result */
     uint64_t position;   /* in the last list of nodes that was tested */
+    uint32_t differs;    /* the first check-sat that differs in the last script that was audited, counted from 1; 0 for none */
     uint32_t number;     /* of the record or node that the last growth appended */
     struct bytes text;   /* of the last accepted call */
     struct bytes reason; /* of the last one that had any */
@@ -40,6 +41,12 @@ uint32_t writer_listing(struct writer *writer, uint32_t node, uint32_t goal);
 
 /* `nodes` is a list of numbers; what comes of it is the writer's result and position. */
 uint32_t writer_nodes_test(struct writer *writer, const struct bytes *nodes);
+
+/* `questions` is a list of nodes and goals in turn; what comes of it is the writer's `differs`. */
+uint32_t writer_audit(struct writer *writer, const struct bytes *questions, const struct bytes *script);
+
+/* Why a fresh session would be refused a question, however long its text is. The writer's own session is fresh then. */
+uint32_t writer_test_question(struct writer *writer, uint32_t node, uint32_t goal);
 
 /* Lets the book grow; the session goes on with it. What is refused leaves the book as it is. */
 uint32_t writer_grow(struct writer *writer, const struct growth *growth);

@@ -22,35 +22,42 @@ extern "C" {
 /* What a call answers: 0 where it is accepted, else why it is refused. */
 enum leskofar_refusal {
     LESKOFAR_ACCEPTED = 0,
-    LESKOFAR_SHORT_SCRATCH = 1,       /* the scratch is shorter than LESKOFAR_SCRATCH */
-    LESKOFAR_BAD_CONTENTS = 2,        /* the book's table of contents is not as laid out */
-    LESKOFAR_COUNT_OVER_LIMIT = 3,    /* a section has more records than it may, or a list more nodes */
-    LESKOFAR_FIELD_OUT_OF_RANGE = 4,  /* a field or list entry is out of range, an unused field is not 0, or a letter is bad */
-    LESKOFAR_NO_FOREST = 5,           /* a child is not smaller than its parent, or a term is referred to twice */
-    LESKOFAR_TOO_DEEP = 6,            /* a node is deeper than 400 */
-    LESKOFAR_NOT_IN_BOOK = 7,         /* a node or term of the call is not in the book */
-    LESKOFAR_REPLY_IS_UNSAT = 8,      /* a model is given for the reply unsat */
-    LESKOFAR_MISSING_AXIOM = 9,       /* a function to be declared has an axiom without a term */
-    LESKOFAR_BUFFER_TOO_SHORT = 10,   /* the text, the reason or the new book is longer than its buffer */
-    LESKOFAR_NO_OPERATOR = 11,        /* the operator's code is not from 1 to 14 */
-    LESKOFAR_NO_SESSION = 20,         /* the session is not one that this book's calls leave */
-    LESKOFAR_QUESTION_OPEN = 21,      /* move or ask while a reply or model is owed */
-    LESKOFAR_NO_REPLY_OWED = 22,      /* a reply is given and none is owed */
-    LESKOFAR_NO_MODEL_OWED = 23,      /* a model is given and none is owed */
-    LESKOFAR_TOO_DEEP_FOR_NARROW = 24 /* the session to be turned back is deeper than 64 */
+    LESKOFAR_SHORT_SCRATCH = 1,        /* the scratch is shorter than LESKOFAR_SCRATCH */
+    LESKOFAR_BAD_CONTENTS = 2,         /* the book's table of contents is not as laid out */
+    LESKOFAR_COUNT_OVER_LIMIT = 3,     /* a section has more records than it may, a list more nodes, or a script more bytes */
+    LESKOFAR_FIELD_OUT_OF_RANGE = 4,   /* a field or list entry is out of range, an unused field is not 0, or a letter is bad */
+    LESKOFAR_NO_FOREST = 5,            /* a child is not smaller than its parent, or a term is referred to twice */
+    LESKOFAR_TOO_DEEP = 6,             /* a node is deeper than 400 */
+    LESKOFAR_NOT_IN_BOOK = 7,          /* a node or term of the call is not in the book */
+    LESKOFAR_REPLY_IS_UNSAT = 8,       /* a model is given for the reply unsat */
+    LESKOFAR_MISSING_AXIOM = 9,        /* a function to be declared has an axiom without a term */
+    LESKOFAR_BUFFER_TOO_SHORT = 10,    /* the text, the reason or the new book is longer than its buffer */
+    LESKOFAR_NO_OPERATOR = 11,         /* the operator's code is not from 1 to 14 */
+    LESKOFAR_NO_SESSION = 20,          /* the session is not one that this book's calls leave */
+    LESKOFAR_QUESTION_OPEN = 21,       /* move or ask while a reply or model is owed */
+    LESKOFAR_NO_REPLY_OWED = 22,       /* a reply is given and none is owed */
+    LESKOFAR_NO_MODEL_OWED = 23,       /* a model is given and none is owed */
+    LESKOFAR_TOO_DEEP_FOR_NARROW = 24, /* the session to be turned back is deeper than 64 */
+    LESKOFAR_TAG_IN_BOOK = 25,         /* the book of an audit holds a %tag literal */
+    LESKOFAR_FOREIGN_LINE = 26,        /* a line of the script is no command of ours, or pops the first level */
+    LESKOFAR_CHECKS_DIFFER = 27        /* the script has more or fewer check-sats than there are questions */
 };
 
 /* The least scratch that a call takes. It need not be cleared first. */
 #define LESKOFAR_SCRATCH 1024
 
 /*
- * Bytes of stack that are enough for any call without a session but leskofar_nodes_test, beside what the caller and its thread take. To
- * print the deepest terms that a book can hold takes nearly all of it, to list them less (docs/PERFORMANCE.md); a call that lets a book
- * grow holds a buffer of LESKOFAR_BOOK bytes there, in which the new book is tested; every other call needs a few thousand bytes.
+ * Bytes of stack that are enough for any call without a session but leskofar_nodes_test and leskofar_audit, beside what the caller and
+ * its thread take. To print the deepest terms that a book can hold takes nearly all of it, to list them less (docs/PERFORMANCE.md); a
+ * call that lets a book grow holds a buffer of LESKOFAR_BOOK bytes there, in which the new book is tested; every other call needs a few
+ * thousand bytes.
  */
 #define LESKOFAR_STACK (200 * 1024)
 
-/* The same for a call on a session, and for leskofar_nodes_test: they walk the terms and axioms that are to be declared. */
+/*
+ * The same for a call on a session, and for leskofar_nodes_test and leskofar_audit: they walk the terms and axioms that are to be
+ * declared. An audit holds there, beside the walk, this library's text of one question and where the script's live lines start.
+ */
 #define LESKOFAR_SESSION_STACK (2048 * 1024)
 
 /*
@@ -195,6 +202,28 @@ typedef struct {
  */
 leskofar_nodes_tested leskofar_nodes_test(const uint8_t *book, size_t book_len, uint8_t *scratch, size_t scratch_len,
                                           const uint8_t *nodes, size_t nodes_len);
+
+/* The longest script that is taken. */
+#define LESKOFAR_SCRIPT_MOST 65536
+
+/*
+ * What an audit answers: 0 and 0 where the script is accepted; 0 and the first check-sat that differs, counted from 1; or why it is
+ * refused, and 0.
+ */
+typedef struct {
+    uint32_t refusal;
+    uint32_t differs;
+} leskofar_audited;
+
+/*
+ * Says whether a script of another writer leaves live, at its k-th check-sat, for every k, just the levels that this library's writer
+ * would: as many, and at each the same lines, each as often, in any order (docs/AUDIT.md). `questions` holds node and goal in turn, four
+ * bytes each, little-endian; a last question that is cut short is not in the book. Refusals 1 to 7 (3 also for a script longer than
+ * LESKOFAR_SCRIPT_MOST), 9, 25, 26 and 27, the first that holds in this order. It has no session and no buffer to write to; afterwards
+ * the scratch is all zero, except under 1.
+ */
+leskofar_audited leskofar_audit(const uint8_t *book, size_t book_len, uint8_t *scratch, size_t scratch_len, const uint8_t *questions,
+                                size_t questions_len, const uint8_t *script, size_t script_len);
 
 /*
  * The writer. Each of the eight calls below reads a book, appends records, and writes the grown book from byte 0 of the buffer

@@ -2,7 +2,7 @@
 passed=0
 failed=0
 log=$(mktemp) || exit 1
-trap 'rm -f "$log" "$log.ci" "$log.beside"' EXIT
+trap 'rm -f "$log" "$log.ci" "$log.beside" "$log.library"' EXIT
 
 count() { # passed failed
     passed=$((passed + $1))

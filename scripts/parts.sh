@@ -15,8 +15,11 @@ told_by() { # command...
     return "$status"
 }
 
+# The library is built meanwhile: it takes one core, and these tests the other.
 reference() {
     part 'reference program'
+    rt staticlib leskofar >"$log.library" 2>&1 &
+    library_built=$!
     if ! need cargo cargo; then
         echo 'FAILED: no cargo, and it could not be installed'
         count 0 1
@@ -31,19 +34,19 @@ reference() {
     if [ "$status" -ne 0 ] && [ "$f" -eq 0 ]; then cat "$log"; count 0 1; fi
 }
 
-# The library against the reference, and from C.
+# The library, which the part before has built, against the reference, and from C.
 library() { # words for the comparison...
     part 'the library, against the reference'
-    if ! { rt staticlib leskofar >"$log" 2>&1 && need cargo cargo && need cc gcc; }; then
-        cat "$log"
+    if ! { wait "$library_built" && need cargo cargo && need cc gcc; }; then
+        cat "$log.library"
         echo 'FAILED: no static library, or no compiler'
         count 0 1
         return
     fi
     counted 'comparison' cargo run --quiet --offline --release --manifest-path compare/Cargo.toml -- "$@"
     part 'the library, from C'
-    for test in capi sessions turns turns_images turns_depths turns_sessions nodes growth growth_cases growth_long growth_terms growth_sessions \
-        stack; do
+    for test in capi sessions turns turns_images turns_depths turns_sessions nodes audit audit_lines audit_refusals audit_edges growth growth_cases \
+        growth_long growth_terms growth_sessions stack; do
         compiled "tests/$test.c" "target/$test" -pthread -Iinclude target/staticlib/libleskofar.a
     done
 }
@@ -76,6 +79,7 @@ host_built() {
 # Parts of the host, tried by themselves.
 host_pieces() {
     compiled tests/scan.c target/host/scan host/scan.c
+    compiled tests/script_lines.c target/host/script_lines -pthread -Iinclude host/script_lines.c target/staticlib/libleskofar.a
     # shellcheck disable=SC2046
     compiled tests/late.c target/host/late -D_POSIX_C_SOURCE=200809L -pthread -Iinclude $(ls host/*.c | grep -v 'host/main.c') \
         target/staticlib/libleskofar.a

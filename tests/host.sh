@@ -10,6 +10,7 @@
 #   PATIENCE  how many seconds a silent solver gets
 #   NODE_PLANS  how many plans with axioms that have no term, NODE_LISTS with how many lists of nodes, and NODE_CHANGES how many books
 #             with a byte changed
+#   AUDIT_STEP  how many lines of a script lie between two that are changed
 #   GROWTH_CHANGES  how many books with a byte changed are to grow
 #   WORK_PLANS  how many made plans grow while they are asked
 #   MUTANTS   how many plans are changed at random, by MUTANTS_SEED
@@ -31,6 +32,7 @@ VERDICTS_SEED=${VERDICTS_SEED:-20260111}
 NODE_PLANS=${NODE_PLANS:-25}
 NODE_LISTS=${NODE_LISTS:-20}
 NODE_CHANGES=${NODE_CHANGES:-200}
+AUDIT_STEP=${AUDIT_STEP:-1}
 GROWTH_CHANGES=${GROWTH_CHANGES:-100}
 WORK_PLANS=${WORK_PLANS:-40}
 MUTANTS=${MUTANTS:-2000}
@@ -159,6 +161,19 @@ book_of() { # sample
     pairs=$(cut -d ' ' -f 1,2 "$work/$1.goals" | tr '\n' ' ')
 }
 
+# The sections of a book, the letters being the first, and how many records one has.
+NAMES=2
+TERMS=8
+CONTEXTS=9
+count_of() { # book section
+    od -An -v -tu4 -w8 -N80 "$1" | awk -v section="$2" 'NR == section { print $2 }'
+}
+
+# The script that a log holds: what sessions sent, without what the host adds to it.
+script_of() { # log
+    grep -v '^;\|^(set-option\|^(echo' "$1"
+}
+
 # A solver that answers gets time enough, also on a busy machine.
 ENOUGH=60
 seconds=$ENOUGH
@@ -184,7 +199,7 @@ hangs() { # solver [text...]
     seconds=$ENOUGH
 }
 
-for group in ${PARTS:-usage names sorts verdicts samples nodes growth lines work depths faults attacks limits kills stack engines mutants splices plans}; do
+for group in ${PARTS:-usage names sorts verdicts samples nodes audit growth lines work depths faults attacks limits kills stack engines mutants splices plans}; do
     . "tests/host/$group.sh"
 done
 

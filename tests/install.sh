@@ -33,8 +33,8 @@ for file in bin/leskofar include/leskofar.h lib/libleskofar.a lib/pkgconfig/lesk
 done
 check 'the installed host runs' "$root$prefix/bin/leskofar" --help
 check 'the man page is sound' sh -c 'said=$(man --warnings -E UTF-8 -l "$1" 2>&1 >/dev/null); echo "$said"; test -z "$said"' sh "$root$prefix/share/man/man1/leskofar.1"
-for word in check print trace listing 'leskofar nodes' prove 'leskofar new' 'append name' 'append constant' 'append term' 'append node' 'leskofar extend' 'leskofar equate' \
-    'leskofar record' 'leskofar point' 'work BOOK' 'ask NODE TERM' '-o NEW' --first --second --show-proof-obligations --lines --indent --tag --solver --timeout --memory --log --quiet --help; do
+for word in check print trace listing 'leskofar nodes' 'leskofar audit' prove 'leskofar new' 'append name' 'append constant' 'append term' 'append node' 'leskofar extend' 'leskofar equate' \
+    'leskofar record' 'leskofar point' 'work BOOK' 'ask NODE TERM' '-o NEW' --first --second --questions --show-proof-obligations --lines --indent --tag --solver --timeout --memory --log --quiet --help; do
     check "the man page has $word" sh -c 'man -E UTF-8 -l "$1" | grep -qe "$2"' sh "$root$prefix/share/man/man1/leskofar.1" "$word"
 done
 

@@ -19,6 +19,11 @@ static uint8_t narrow[LESKOFAR_NARROW_IMAGE];
 static uint8_t text[TEXT_SIZE];
 static uint8_t new_book[LESKOFAR_BOOK];
 
+/* A script for an audit, and the first check-sat that differs in it. */
+static uint8_t script[LESKOFAR_SCRIPT_MOST];
+static size_t script_len;
+static uint32_t wanted_differs;
+
 #define BOOK book, written.len, scratch, sizeof scratch
 #define NEW new_book, sizeof new_book
 
@@ -93,6 +98,15 @@ static uint32_t ask_at_last(uint32_t goal) {
     return leskofar_ask(BOOK, image, sizeof image, written.node, goal, text, sizeof text).refusal;
 }
 
+/* The last term as a goal: accepted here where the script is judged as it must be. */
+static uint32_t audit_at(uint32_t node) {
+    uint8_t questions[2 * NUMBER];
+    put_number(questions, node);
+    put_number(questions + NUMBER, written.term);
+    leskofar_audited answer = leskofar_audit(BOOK, questions, sizeof questions, script, script_len);
+    return answer.differs == wanted_differs ? answer.refusal : LESKOFAR_CHECKS_DIFFER;
+}
+
 /* The turns of the session where it stands: accepted here where they answer as they must. */
 static uint32_t turn_back(uint32_t wanted) {
     uint32_t answer = leskofar_narrow(BOOK, image, sizeof image, narrow, sizeof narrow);
@@ -159,10 +173,29 @@ static void measure_turns(struct given g, uint32_t depth) {
     measure("widening", g, LESKOFAR_SESSION_STACK, widen, is_deep ? LESKOFAR_NO_SESSION : LESKOFAR_ACCEPTED);
 }
 
-/* Of the book just written: its last term asked at the root and at the last node. */
+/* The script is our own text; where that is longer than any script, which an audit has to find out, a check-sat alone. */
+static void make_script(uint32_t node) {
+    static const char check[] = "(check-sat)\n";
+    (void)leskofar_fresh(image, sizeof image);
+    leskofar_answer asked = leskofar_ask(BOOK, image, sizeof image, node, written.term, text, sizeof text);
+    stop_if(asked.refusal != LESKOFAR_ACCEPTED, "make a script");
+    int is_long = asked.text > sizeof script;
+    script_len = is_long ? strlen(check) : (size_t)asked.text;
+    memcpy(script, is_long ? (const uint8_t *)check : text, script_len);
+    wanted_differs = is_long ? 1 : 0;
+}
+
+static void measure_audit(const char *name, struct given g, uint32_t node) {
+    make_script(node);
+    measure(name, g, LESKOFAR_SESSION_STACK, audit_at, node);
+}
+
+/* Of the book just written: its last term asked at the root and at the last node, and audits of what is sent. */
 static void measure_asks(struct given g) {
     measure("ask", g, LESKOFAR_SESSION_STACK, ask_at_root, written.term);
     measure("ask at the node", g, LESKOFAR_SESSION_STACK, ask_at_last, written.term);
+    measure_audit("audit", g, 0);
+    measure_audit("audit at the node", g, written.node);
 }
 
 /*
@@ -210,6 +243,7 @@ static void measure_all_growth(struct given g) {
 
 static void measure_shape(const struct shape *s) {
     const struct given in_node = {s->name, "in a node"};
+    const struct given own = {s->name, "in the goal's own axiom"};
     written = write_nest(book, s, leaf);
     measure_texts(in_node);
     measure_session(in_node, 1);
@@ -221,7 +255,8 @@ static void measure_shape(const struct shape *s) {
     written = write_axioms(book, s, MOST_AXIOMS);
     measure_session((struct given){s->name, "in as many axioms as there can be"}, 1);
     written = write_own_axiom(book, s);
-    measure("ask", (struct given){s->name, "in the goal's own axiom"}, LESKOFAR_SESSION_STACK, ask_at_root, written.term);
+    measure("ask", own, LESKOFAR_SESSION_STACK, ask_at_root, written.term);
+    measure_audit("audit", own, 0);
 }
 
 /* The same shape in as many terms as a chain of nodes leaves. */

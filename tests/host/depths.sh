@@ -20,9 +20,6 @@ expect_said 'the trace 400 deep' 0 "$(cat "$deep/steps.trace")"
 run listing "$book" "$last" "$goal"
 expect_said 'the listing 400 deep' 0 "$(cat "$deep/steps.listing")"
 
-# What a solver was sent, but for what the host adds.
-script_in() { grep -v '^;\|^(set-option\|^(echo\|^(get-model)$' "$1"; }
-
 # The two that are not proved: at the step before the last, whose trace has all others, and at step 64, with a trace at every second.
 NARROW_TRACES=32
 expect_traces() {
@@ -40,11 +37,22 @@ for solver in z3 cvc5; do
     expect "400 steps with $solver" 1
     expect_results "400 steps with $solver" 'Proved Unproved Proved Unproved Proved'
     expect_solvers "400 steps with $solver" "$deep/log" 1
-    script_in "$deep/log" >"$deep/sent"
+    # The script as it was worked out asks for no models.
+    script_of "$deep/log" | grep -vx '(get-model)' >"$deep/sent"
     cmp -s "$deep/sent" "$deep/steps.script" && passed=$((passed + 1)) ||
         fail "400 steps with $solver" "another text: $(diff "$deep/sent" "$deep/steps.script" | head -5)"
     expect_traces "400 steps with $solver"
 done
+# An audit takes the script as it was worked out, and not without its deepest premise.
+# shellcheck disable=SC2086
+run audit "$book" "$deep/steps.script" $pairs
+expect_said 'an audit 400 deep' 0 'accepted'
+check=$(grep -nx '(check-sat)' "$deep/steps.script" | sed -n '1s/:.*//p')
+premise=$(head -n $((check - 4)) "$deep/steps.script" | grep -n '^(assert' | sed -n '$s/:.*//p')
+sed "${premise}d" "$deep/steps.script" >"$deep/changed"
+# shellcheck disable=SC2086
+run audit "$book" "$deep/changed" $pairs
+expect_said 'an audit without a premise 400 deep' 1 "rejected: check-sat 1 at line $((check - 1)), node $last, term $goal"
 run prove "$book" "$last" "$goal" --premises --show-proof-obligations
 expect '400 steps, premises and listing' 0 ': Proved'
 expect_not '400 steps, premises and listing' 'contradict'
@@ -77,11 +85,10 @@ echo '(node more root p0)' >>"$deep/more.plan"
 run check "$deep/more.book"
 expect 'a step more beside the others' 0 'a good book'
 # Where the contexts are, whose records have three numbers.
-CONTEXTS=9
 contexts=$(od -An -v -tu4 -w8 -N80 "$deep/more.book" | awk -v section="$CONTEXTS" 'NR == section { print $1 }')
 printf "\\$(printf '%03o' $((DEPTH % 256)))\\$(printf '%03o' $((DEPTH / 256)))" |
     dd of="$deep/more.book" bs=1 seek=$((contexts + DEPTH * 3 * 4)) conv=notrunc 2>/dev/null
-for words in 'check BOOK' 'print BOOK 0' 'trace BOOK 1' 'listing BOOK 1 0' 'nodes BOOK' 'prove BOOK 1 0' 'append name BOOK x -o NEW' \
+for words in 'check BOOK' 'print BOOK 0' 'trace BOOK 1' 'listing BOOK 1 0' 'nodes BOOK' 'audit BOOK /dev/null 1 0' 'prove BOOK 1 0' 'append name BOOK x -o NEW' \
     'append node BOOK 0 0 0 -o NEW' 'extend BOOK 1 0 -o NEW' 'point BOOK 0 x -o NEW' 'work BOOK -o NEW'; do
     # The words are meant to fall apart.
     # shellcheck disable=SC2046

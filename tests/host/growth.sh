@@ -54,12 +54,6 @@ expect_text 'its premises' '----- Proof obligation:
 # Every kind of term, and every way to hang a node, on a book with a function and a pattern. `plan text` is written apart.
 printf '(type T)\n(constant x Int)\n(function f (Int) Int)\n(pattern p ((f 1)))\n(term free (< x 1))\n' >"$grown/rich.plan"
 "$TOOLS/plan" book "$grown/rich.plan" -o "$grown/rich.book" || exit 1
-counts() { od -An -v -tu4 -w8 -N80 "$1" | awk '{ print $2 }'; }
-count_of() { # book section, the letters being the first
-    counts "$1" | sed -n "$2p"
-}
-NAMES=2
-TERMS=8
 first=$(count_of "$grown/rich.book" "$TERMS")
 named=$(count_of "$grown/rich.book" "$NAMES")
 cp "$grown/rich.book" "$new"

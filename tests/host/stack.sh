@@ -11,9 +11,10 @@ raw='--raw-names --raw-sorts'
 LITTLE=256
 MUCH=65536
 
-deep() { # KiB of stack, arguments...
-    kib=$1
-    shift
+ends() { # status, KiB of stack, arguments...
+    wanted=$1
+    kib=$2
+    shift 2
     # The limit is for this one run.
     (
         ulimit -S -s "$kib" || exit 1
@@ -21,10 +22,29 @@ deep() { # KiB of stack, arguments...
         exit "$status"
     )
     status=$?
-    expect "$* with $kib KiB of stack" 0
+    expect "$* with $kib KiB of stack" "$wanted"
+}
+
+deep() { # KiB of stack, arguments...
+    ends 0 "$@"
+}
+
+# A script of two questions, and the status of its audit: what is longer than any script that is taken cannot be accepted.
+SCRIPT_MOST=65536
+script=$work/deepest/script
+make_script() { # book node term
+    # shellcheck disable=SC2086
+    run prove "$1" "$2" "$3" 0 "$3" --solver tests/solvers/proves_all.sh $raw --log "$work/deepest/log"
+    script_of "$work/deepest/log" >"$script"
+    audited=0
+    if [ "$(wc -c <"$script")" -gt "$SCRIPT_MOST" ]; then
+        printf '(check-sat)\n(check-sat)\n' >"$script"
+        audited=1
+    fi
 }
 
 while read -r deepest node term; do
+    make_script "$deepest" "$node" "$term"
     for kib in $LITTLE $MUCH; do
         # The flags are meant to fall apart.
         # shellcheck disable=SC2086
@@ -33,6 +53,7 @@ while read -r deepest node term; do
         deep "$kib" print "$deepest" "$term" --lines
         deep "$kib" listing "$deepest" "$node" "$term"
         deep "$kib" nodes "$deepest"
+        ends "$audited" "$kib" audit "$deepest" "$script" "$node" "$term" 0 "$term"
         deep "$kib" append name "$deepest" x -o "$work/deepest/grown"
         # shellcheck disable=SC2086
         deep "$kib" prove "$deepest" "$node" "$term" 0 "$term" --solver tests/solvers/proves_all.sh $raw

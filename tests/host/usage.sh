@@ -5,7 +5,7 @@ book=$work/siblings.book
 
 run --help
 expect 'help' 0 'usage: leskofar COMMAND'
-commands='check print trace listing nodes prove new append extend equate record point work'
+commands='check print trace listing nodes audit prove new append extend equate record point work'
 [ "$(sed -n 's/^  \([a-z][a-z]*\) .*/\1/p' "$out" | tr '\n' ' ')" = "$commands " ] && passed=$((passed + 1)) ||
     fail 'help' 'other commands, or another order'
 for command in $commands; do
@@ -30,6 +30,7 @@ for command in $commands; do
     case $command in
         new) continue ;;
         check | work) run "$command" "$work/short.book" ;;
+        audit) run audit "$work/short.book" /dev/null 1 1 ;;
         listing | prove) run "$command" "$work/short.book" 1 1 ;;
         append) run append name "$work/short.book" x -o "$work/grown.book" ;;
         equate | record) run "$command" "$work/short.book" 0 0 0 -o "$work/grown.book" ;;
@@ -179,19 +180,8 @@ expect_said 'a node that it has not' 2 \
 "$TOOLS/plan" book "$work/full.plan" -o "$work/full.book" || exit 1
 run nodes "$work/full.book"
 expect_said 'all nodes of a full book' 0 '512 nodes can be reached'
-# A section that is too long is the book's fault, whatever list comes with it: letters, of which a book has at most 8,192.
-CONTENTS=80
-LETTERS=8193
-number() { printf "\\$(printf '%03o' $(($1 % 256)))\\$(printf '%03o' $(($1 / 256)))\\000\\000"; }
-{
-    number "$CONTENTS"
-    number "$LETTERS"
-    for _ in 1 2 3 4 5 6 7 8 9; do
-        number $((CONTENTS + LETTERS))
-        number 0
-    done
-    head -c "$LETTERS" /dev/zero
-} >"$work/overfull.book"
+# A section that is too long is the book's fault, whatever list comes with it.
+. tests/host/overfull.sh
 for list in '' 1 "$(seq 513)"; do
     # shellcheck disable=SC2086
     run nodes "$work/overfull.book" $list
