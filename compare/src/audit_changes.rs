@@ -1,7 +1,7 @@
 //! Changes to the levels that a check-sat is to see, to questions, and to the
 //! bytes of a script.
 
-use crate::audit_office::sorted;
+use crate::audit_foreign::sorted;
 use leskofar_reference::audit::QUESTION_SIZE;
 use leskofar_reference::audit_samples::{bytes, Question};
 use leskofar_reference::book::NUMBER_SIZE;

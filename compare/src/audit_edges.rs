@@ -3,7 +3,7 @@
 
 use crate::audit::Audits;
 use crate::audit_call::{AuditCall, Outcome};
-use crate::audit_office::{shuffle, Manners, Office};
+use crate::audit_foreign::{shuffle, ForeignWriter, Manners};
 use crate::audit_wide::{alike, equal_level, wide, Wide};
 use crate::made_books::chain;
 use crate::tally::Met;
@@ -146,7 +146,7 @@ fn deepest(met: &mut Met<Outcome>) -> Result<String, String> {
         [deepest - 1, deepest - 1],
     ] {
         let stacks = [levels(1)?, levels(sent)?];
-        let script = Office::script(&mut random, Manners::default(), &stacks);
+        let script = ForeignWriter::script(&mut random, Manners::default(), &stacks);
         let answer = if asked == sent { AGREES } else { differs_at(2) };
         expect(&book, &[[1, goal], [asked, goal]], &script, answer, met)?;
         expect(&book, &[[1, goal]; 2], &script, differs_at(2), met)?;
@@ -166,7 +166,7 @@ fn expect_level(
     let mut levels = levels.ok_or("no levels")?;
     change(&mut levels[1]);
     let mut random = Random::new(SEED);
-    let script = Office::script(&mut random, Manners::default(), &[levels]);
+    let script = ForeignWriter::script(&mut random, Manners::default(), &[levels]);
     expect(&book, &[[0, wide.goal]], &script, answer, met)
 }
 

@@ -7,7 +7,7 @@ use crate::audit_call::{AuditCall, Outcome, VERDICTS};
 use crate::audit_changes::{
     changed_questions, damaged_script, same_levels, LEVEL_CHANGES, QUESTION_CHANGES,
 };
-use crate::audit_office::{Manners, Office};
+use crate::audit_foreign::{ForeignWriter, Manners};
 use crate::audit_own::{Own, OWN_SHAPES};
 use crate::random_inputs::scratch_length;
 use crate::tally::Met;
@@ -22,7 +22,7 @@ use leskofar_reference::stack::{expected_levels, Level};
 const SEED: u64 = 0x6175_6469;
 /// Random scripts of each sort.
 const OWN_TEXTS: usize = 30_000;
-const OFFICE_SCRIPTS: usize = 10_000;
+const FOREIGN_SCRIPTS: usize = 10_000;
 const CHANGED_LEVELS: usize = 15_000;
 const CHANGED_QUESTIONS: usize = 10_000;
 const DAMAGED: usize = 40_000;
@@ -108,8 +108,8 @@ impl Asked {
 }
 
 /// What another writer makes for the same levels is accepted.
-fn office_group(audits: &mut Audits) {
-    let scripts = audits.share(OFFICE_SCRIPTS);
+fn foreign_group(audits: &mut Audits) {
+    let scripts = audits.share(FOREIGN_SCRIPTS);
     audits.group("audit, scripts of another writer", |met| {
         let mut shapes = Met::default();
         let mut random = Random::new(SEED);
@@ -120,7 +120,7 @@ fn office_group(audits: &mut Audits) {
             let call = AuditCall {
                 book: &asked.book,
                 questions: &bytes(&asked.questions),
-                script: &Office::script(&mut random, manners, &asked.stacks),
+                script: &ForeignWriter::script(&mut random, manners, &asked.stacks),
             };
             let audited = call.expect_or(Verdict::Agrees, &REFUSED_ALL_THE_SAME, met)?;
             if audited.refusal == 0 {
@@ -157,7 +157,7 @@ fn levels_group(audits: &mut Audits) {
             let call = AuditCall {
                 book: &asked.book,
                 questions: &bytes(&asked.questions),
-                script: &Office::script(&mut random, manners, &stacks),
+                script: &ForeignWriter::script(&mut random, manners, &stacks),
             };
             let audited = call
                 .expect_or(verdict, &REFUSED_ALL_THE_SAME, met)
@@ -183,7 +183,7 @@ fn questions_group(audits: &mut Audits) {
             let call = AuditCall {
                 book: &asked.book,
                 questions: &changed_questions(&mut random, change, &questions, &asked.maker),
-                script: &Office::script(&mut random, manners, &asked.stacks),
+                script: &ForeignWriter::script(&mut random, manners, &asked.stacks),
             };
             let scratch = scratch_length(&mut random);
             call.compare(scratch, met)
@@ -238,7 +238,7 @@ fn damage_group(audits: &mut Audits) {
 
 pub fn run(audits: &mut Audits) {
     own_group(audits);
-    office_group(audits);
+    foreign_group(audits);
     levels_group(audits);
     questions_group(audits);
     damage_group(audits);

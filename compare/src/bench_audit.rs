@@ -1,8 +1,8 @@
 //! Speed of an audit as a ratio to the reference, and to asks of the library
 //! for the same questions, each of a fresh session, all measured in this run.
 
+use crate::audit_foreign::{ForeignWriter, Manners};
 use crate::audit_library::{audit, Audited};
-use crate::audit_office::{Manners, Office};
 use crate::audit_wide::{alike, equal_level, wide, Wide, EQUAL_LINES};
 use crate::library::book_test;
 use crate::nodes_trees::{chains, planted};
@@ -69,7 +69,7 @@ impl Job {
 
     /// Prints a row of the table: a script for these levels.
     fn row(&self, name: &str, manners: Manners, stacks: &[Vec<Level>], answer: Audited) {
-        let script = Office::script(&mut Random::new(SEED), manners, stacks);
+        let script = ForeignWriter::script(&mut Random::new(SEED), manners, stacks);
         let questions = bytes(&self.questions);
         let book = &self.book;
         let mut text = vec![0; ROOM];

@@ -47,9 +47,9 @@ pub push-kept : Kept Push
 unfolding stays kind same commandToString CMD_PUSH
 push-kept = stays-kept Push whole-push refl
 
-pub plain-kept : {cs : List Command} → All Plain cs → All Kept cs
+pub plain-kept : (c : Command) → Plain c → Kept c
 unfolding stays
-plain-kept = all-weaken (λ c h. stays-kept c (h .one) (ap stays (h .joins)))
+plain-kept c h = stays-kept c (h .one) (ap stays (h .joins))
 
 -- ---- their text
 pub wholes : {cs : List Command} → All Kept cs → All Whole cs

@@ -1,3 +1,4 @@
+pub mod Sent
 mod Starts
 mod Kept
 mod Own

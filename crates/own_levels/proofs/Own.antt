@@ -1,14 +1,14 @@
 -- Our question from the root: its commands before the check-sat, the levels they leave, and its text in a buffer.
 use Prim.Native.Nat.{ℕ, _+_, _-_, _≤_, _<_}
 use native.Mathlib.Omega.{arith}
-use mathlib.Core.Path.{_≡_, refl, sym, ap, _∙_, subst}
+use mathlib.Core.Path.{_≡_, refl, sym, ap, _∙_}
 use mathlib.Core.Bool.{Bool, true, false}
 use mathlib.Core.List.{List, [], _∷_, _++_, append-assoc}
 use lib.ListN.{length, take, length-append}
 use lib.Seq.{take-take, take-at}
 use Rattle.basics.specs.Text.{Text}
 use Rattle.basics.specs.Write.{WroteAt}
-use Rattle.basics.proofs.All.{All, end, more, all-append}
+use Rattle.basics.proofs.All.{All, all-append}
 use Rattle.basics.proofs.Places.{at-taken}
 use Rattle.book.specs.Book.{Book, terms, size}
 use Rattle.book.specs.Program.{path, pathUp, depth, shared}
@@ -17,27 +17,21 @@ use Rattle.book_test.specs.Promise.{Promise}
 use Rattle.smt_engines.specs.SmtEngines.{CMD_CHECK_SAT}
 use Rattle.smt_engines.specs.Command.{Command, Push, CheckSat, commandToString, script}
 use Rattle.smt_engines.specs.Reader.{first, live, lost, Reader, hearAll, hear, lines, read}
-use Rattle.smt_engines.proofs.Commands.{Plain}
 use Rattle.smt_engines.proofs.Hearing.{hears, hears-append, hears-check, script-append, read-script}
-use Rattle.rsolver.specs.Step.{Step}
-use Rattle.rsolver.specs.LevelState.{LevelState, fresh, noLevels, sentBy}
-use Rattle.rsolver.proofs.Declares.{Declares, sent-by, symbols-d, assume-not-d}
+use Rattle.rsolver.specs.LevelState.{fresh, noLevels}
 use Rattle.engine.specs.Engine.{stateAt}
 use Rattle.solvers.specs.declared.Owed.the-variants.{Reply}
-use Rattle.solvers.specs.Rule.{standing, nodeCommands, levelsOf, goalCommands, denialCommands, goalLevels, levelsFor, entering, moveCommands, questionCommands, present, mustLive}
+use Rattle.solvers.specs.Rule.{standing, levelsOf, goalCommands, denialCommands, goalLevels, levelsFor, moveCommands, questionCommands, present, mustLive}
 use Rattle.solvers.proofs.Good.{good, term-clean}
-use Rattle.solvers.proofs.Standing.{settled, travel}
+use Rattle.solvers.proofs.Standing.{travel}
 use Rattle.solvers.proofs.Questions.{hears-question}
 use Rattle.live_lines.specs.LiveLines.{scriptMost}
 use Rattle.level_lines.specs.AsOften.{sameLevels}
 use Rattle.level_lines.specs.LevelLines.{stackOf}
 use Rattle.level_lines.proofs.Bytes.{same-bytes}
 use Rattle.own_levels.specs.OwnLevels.{checkBytes, Compared, OwnText}
+use Rattle.own_levels.proofs.Sent.{entering-all, question-all}
 use Rattle.own_levels.proofs.Kept.{Kept, push-kept, plain-kept, wholes, own-text, script-bytes}
-
--- what a declaring step sends
-sent-kept : {f : Step LevelState} → Declares f → (s : LevelState) → All Kept (sentBy f s)
-sent-kept F s = plain-kept (subst (All Plain) (sym (sent-by F s)) (F .plains s))
 
 -- a check-sat changes nothing
 checked : (r : Reader) → hears r (CheckSat ∷ []) ≡ r
@@ -77,23 +71,13 @@ module _ (b : Book) (P : Promise b) (node goal : ℕ) (inside : goal < size b te
       ∙ hears-append (live (first [])) (moveCommands (program b) 0 node) ask ∙ ap (λ r. hears r ask) (travel (program b) G 0 node (root-clear b) .heard)
       ∙ hears-question b G (term-clean b P) node (term b goal) (term-clean b P goal inside) (levelsOf (program b) (path (program b) node))
 
-  entering-kept : (ns : List ℕ) → All Kept (entering (program b) ns)
-  unfolding entering nodeCommands
-  entering-kept [] = end
-  entering-kept (n ∷ ns) = all-append (more push-kept (sent-kept (settled (program b) (good b P) n) _)) (entering-kept ns)
-
   -- from the root nothing is popped
-  move-kept : All Kept (moveCommands (program b) 0 node)
-  unfolding moveCommands path pathUp depth shared
-  move-kept = entering-kept _
-
   kept : All Kept (before b node goal)
-  unfolding before goalCommands denialCommands
+  unfolding before moveCommands path pathUp depth shared
   kept =
-      let e = term b goal in
-      let h = term-clean b P goal inside in
-      all-append move-kept
-      (all-append (more push-kept (sent-kept (symbols-d (program b) (good b P .axioms) e h) _)) (more push-kept (sent-kept (assume-not-d (program b) e h) _)))
+      let G = good b P in
+      all-append (entering-all Kept push-kept plain-kept (program b) G _)
+      (question-all Kept push-kept plain-kept (program b) G node (term b goal) (term-clean b P goal inside))
 
   -- ---- its text
   script-is : script (asked b node goal) ≡ script (before b node goal) ++ script (CheckSat ∷ [])

@@ -2,7 +2,7 @@
 use mathlib.Core.Path.{_≡_, refl, sym, ap, _∙_, subst}
 use mathlib.Core.List.{List, [], _∷_, _++_, map, map-append, append-assoc, append-nil}
 use Rattle.basics.specs.Outcome.{Outcome, refused, accepted}
-use Rattle.basics.proofs.All.{All, end, more, all-append, map-agree}
+use Rattle.basics.proofs.All.{All, end, all-append, all-weaken, map-agree}
 use Rattle.book.specs.Book.{Book}
 use Rattle.book_test.specs.BookTest.{bookTest}
 use Rattle.book_test.proofs.Numbers.{test-not20}
@@ -54,8 +54,7 @@ checked-after t {qs} x c (accepted w) h =
     }
 
 opens-kept : {b c : Book} → Grows b c → {qs : List Question} → All (Open b) qs → All (Open c) qs
-opens-kept g end = end
-opens-kept g (more {a = q} f fs) = more (fits-kept g (present (q .node) (q .goal) Reply) f) (opens-kept g fs)
+opens-kept g = all-weaken (λ q f. fits-kept g (present (q .node) (q .goal) Reply) f)
 
 checked-grown : (t : Trace) {qs : List Question} {c : Book} → Grows (t .book) c → Checked t qs → Checked (on c t) qs
 unfolding holds-grown stackFor

@@ -5,7 +5,7 @@ use mathlib.Core.Path.{_≡_, refl, sym, ap, _∙_}
 use mathlib.Core.Bool.{Bool, true, false}
 use mathlib.Core.List.{List, [], _∷_, _++_, append-assoc}
 use Rattle.basics.specs.Text.{Text, same}
-use Rattle.basics.proofs.All.{All, end, more, all-weaken}
+use Rattle.basics.proofs.All.{All, end, more}
 use Rattle.basics.proofs.Texts.{same-eq}
 use Rattle.smt_engines.specs.SmtEngines.{CMD_PUSH, CMD_POP, CMD_CHECK_SAT, CMD_GET_MODEL}
 use Rattle.smt_engines.specs.Command.{Command, CheckSat, commandToString}
@@ -19,9 +19,9 @@ abbrev pub NoCheck : Command → Type 0
 NoCheck c = same (commandToString c) CMD_CHECK_SAT ≡ false
 
 -- a check-sat does not join its level
-plain-check : {c : Command} → Plain c → NoCheck c
+pub plain-no : (c : Command) → Plain c → NoCheck c
 unfolding kind same CMD_CHECK_SAT
-plain-check {c} h = at (same (commandToString c) CMD_CHECK_SAT) refl
+plain-no c h = at (same (commandToString c) CMD_CHECK_SAT) refl
   where
     at : (x : Bool) → same (commandToString c) CMD_CHECK_SAT ≡ x → x ≡ false
     at false e = refl
@@ -29,9 +29,6 @@ plain-check {c} h = at (same (commandToString c) CMD_CHECK_SAT) refl
         let k = ap kind (sym (same-eq (commandToString c) CMD_CHECK_SAT e)) ∙ h .joins in
         let z : _≡_ {A = ℕ} 0 1 = cc in
         absurd (omega arith)
-
-pub no-checks : {cs : List Command} → All Plain cs → All NoCheck cs
-no-checks = all-weaken (λ c h. plain-check h)
 
 pub checks-none : (r : Reader) {cs : List Command} → All NoCheck cs → checksFrom r (lines cs) ≡ []
 unfolding checksFrom lines noted

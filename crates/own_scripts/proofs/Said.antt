@@ -1,37 +1,31 @@
 -- An accepted call: the check-sats in what it says, and its question, on a book that passes the test.
 use Prim.Native.Nat.{ℕ, zero, suc, _-_}
-use mathlib.Core.Path.{_≡_, refl, sym, ap, _∙_, subst}
+use mathlib.Core.Path.{_≡_, refl, sym, ap, _∙_}
 use mathlib.Core.Bool.{Bool, true, false}
 use mathlib.Core.List.{List, [], _∷_, _++_, map, reverse, append-assoc}
 use lib.ListN.{replicate, take}
 use Rattle.basics.specs.Text.{same}
 use Rattle.basics.specs.Outcome.{accepted}
 use Rattle.basics.proofs.All.{All, end, more, all-append}
-use Rattle.book.specs.RExpr.{RExpr}
 use Rattle.book.specs.Book.{Book}
 use Rattle.book.specs.Program.{path, depth, shared}
 use Rattle.book.specs.Decode.{term, program}
 use Rattle.book_test.specs.BookTest.{bookTest}
-use Rattle.solver_expr.proofs.Clean.{CleanR}
 use Rattle.smt_engines.specs.SmtEngines.{CMD_PUSH, CMD_POP, CMD_CHECK_SAT, CMD_GET_MODEL}
 use Rattle.smt_engines.specs.Command.{Push, Pop, CheckSat, GetModel, commandToString}
 use Rattle.smt_engines.specs.Reader.{Stack, Reader, live, lines}
-use Rattle.smt_engines.proofs.Commands.{Plain}
 use Rattle.smt_engines.proofs.Hearing.{hears}
-use Rattle.rsolver.specs.Step.{Step}
-use Rattle.rsolver.specs.LevelState.{LevelState, sentBy}
-use Rattle.rsolver.proofs.Declares.{Declares, sent-by, symbols-d, assume-not-d}
 use Rattle.solvers.specs.declared.Owed.the-variants.{Reply}
 use Rattle.solvers.specs.Session.{Written, isUnsat}
 use Rattle.solvers.specs.Calls.{Call, moveTo, askFor, replyWith, modelWith}
-use Rattle.solvers.specs.Rule.{nodeCommands, entering, goalCommands, denialCommands, moveCommands, questionCommands, replyCommands, Present, present, next, mustLive, said}
-use Rattle.solvers.proofs.Standing.{settled}
+use Rattle.solvers.specs.Rule.{goalCommands, denialCommands, moveCommands, questionCommands, replyCommands, Present, present, next, mustLive, said}
 use Rattle.solvers.proofs.Questions.{Fits, Leaves}
 use Rattle.solvers.proofs.Root.{G, T}
+use Rattle.own_levels.proofs.Sent.{entering-all, question-all}
 use Rattle.script_checks.specs.ScriptChecks.{checksFrom}
 use Rattle.question_lists.specs.Questions.{Question, stackFor}
 use Rattle.own_scripts.specs.OwnScripts.{askedBy}
-use Rattle.own_scripts.proofs.CheckSats.{NoCheck, no-checks, checks-none, checked}
+use Rattle.own_scripts.proofs.CheckSats.{NoCheck, plain-no, checks-none, checked}
 
 -- a question that the book can be asked
 abbrev pub Open : Book → Question → Type 0
@@ -62,33 +56,13 @@ unfolding replyCommands
 replies-no true = closing-no
 replies-no false = more model-no end
 
-declares-no : {f : Step LevelState} → Declares f → (s : LevelState) → All NoCheck (sentBy f s)
-declares-no D s = no-checks (subst (All Plain) (sym (sent-by D s)) (D .plains s))
-
 module _ (b : Book) (ok : bookTest b ≡ accepted tt) where
-  node-no : (n : ℕ) → All NoCheck (nodeCommands (program b) n)
-  unfolding nodeCommands
-  node-no n = declares-no (settled (program b) (G b ok) n) _
-
-  entering-no : (ns : List ℕ) → All NoCheck (entering (program b) ns)
-  unfolding entering
-  entering-no [] = end
-  entering-no (n ∷ ns) = all-append (more push-no (node-no n)) (entering-no ns)
-
   move-no : (a n : ℕ) → All NoCheck (moveCommands (program b) a n)
   unfolding moveCommands
   move-no a n =
       let p = program b in
       let s = shared (path p a) (path p n) in
-      all-append (pops-no (depth p a - s)) (entering-no (reverse (take (depth p n - s) (path p n))))
-
-  goal-no : (n : ℕ) (e : RExpr) → CleanR e → All NoCheck (goalCommands (program b) n e)
-  unfolding goalCommands
-  goal-no n e h = declares-no (symbols-d (program b) (G b ok .axioms) e h) _
-
-  denial-no : (n : ℕ) (e : RExpr) → CleanR e → All NoCheck (denialCommands (program b) n e)
-  unfolding denialCommands
-  denial-no n e h = declares-no (assume-not-d (program b) e h) _
+      all-append (pops-no (depth p a - s)) (entering-all NoCheck push-no plain-no p (G b ok) (reverse (take (depth p n - s) (path p n))))
 
   -- ---- an accepted call
   module _ (w : Present) where
@@ -104,7 +78,7 @@ module _ (b : Book) (ok : bookTest b ≡ accepted tt) where
         let apart : m ++ (q ++ (CheckSat ∷ [])) ≡ (m ++ q) ++ (CheckSat ∷ []) = sym (append-assoc m q (CheckSat ∷ [])) in
         ap {B = List Stack} (λ cs. checksFrom (live (mustLive b w)) (lines cs)) apart
         ∙ checked (live (mustLive b w)) _
-        (all-append (move-no (w .node) n) (all-append (more push-no (goal-no n e clean)) (more push-no (denial-no n e clean))))
+        (all-append (move-no (w .node) n) (question-all NoCheck push-no plain-no p (G b ok) n e clean))
         (ap {B = Reader} (λ cs. hears (live (mustLive b w)) cs) (sym apart) ∙ k .heard)
     call-checks (replyWith h false r) x k = checks-none _ closing-no
     call-checks (replyWith h true r) x k = checks-none _ (replies-no (isUnsat r))

@@ -84,30 +84,30 @@ const STRAYS: usize = 2;
 const BEHIND: usize = 6;
 const COMMANDS: usize = 4;
 
-pub struct Office<'r> {
+pub struct ForeignWriter<'r> {
     random: &'r mut Random,
     manners: Manners,
     live: Vec<Level>,
     script: Vec<u8>,
 }
 
-impl Office<'_> {
+impl ForeignWriter<'_> {
     /// A script with a check-sat for each of these stacks of levels.
     pub fn script(random: &mut Random, manners: Manners, stacks: &[Vec<Level>]) -> Vec<u8> {
-        let mut office = Office {
+        let mut writer = ForeignWriter {
             random,
             manners,
             live: vec![vec![]],
             script: Vec::new(),
         };
         for levels in stacks {
-            office.come_to(levels);
-            office.send(CMD_CHECK_SAT);
+            writer.come_to(levels);
+            writer.send(CMD_CHECK_SAT);
         }
         if manners.goes_on {
-            office.go_on();
+            writer.go_on();
         }
-        office.script
+        writer.script
     }
 
     /// Makes just these levels live. What stands at the first level stays.
