@@ -7,7 +7,7 @@ const char *refusal_meaning(uint32_t refusal) {
     case LESKOFAR_ACCEPTED:
         return "accepted";
     case LESKOFAR_SHORT_SCRATCH:
-        return "the scratch is shorter than 1,024 bytes";
+        return "the scratch is shorter than 128 bytes";
     case LESKOFAR_BAD_CONTENTS:
         return "the book is under 80 bytes, or its table of contents is not as laid out";
     case LESKOFAR_COUNT_OVER_LIMIT:

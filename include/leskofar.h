@@ -43,8 +43,11 @@ enum leskofar_refusal {
     LESKOFAR_CHECKS_DIFFER = 27        /* the script has more or fewer check-sats than there are questions */
 };
 
-/* The least scratch that a call takes. It need not be cleared first. */
-#define LESKOFAR_SCRATCH 1024
+/*
+ * The least scratch that a call takes: a bit for each of the 1,024 terms that a book may have. It need not be cleared first. Afterwards all
+ * of it is zero, also where it is longer; under refusal 1 not a byte is touched.
+ */
+#define LESKOFAR_SCRATCH 128
 
 /*
  * Bytes of stack that are enough for any call without a session but leskofar_nodes_test and leskofar_audit, beside what the caller and

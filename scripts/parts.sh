@@ -45,8 +45,8 @@ library() { # words for the comparison...
     fi
     counted 'comparison' cargo run --quiet --offline --release --manifest-path compare/Cargo.toml -- "$@"
     part 'the library, from C'
-    for test in capi sessions turns turns_images turns_depths turns_sessions nodes audit audit_lines audit_refusals audit_edges growth growth_cases \
-        growth_long growth_terms growth_sessions stack; do
+    for test in capi scratches references sessions turns turns_images turns_depths turns_sessions nodes audit audit_lines audit_refusals \
+        audit_edges growth growth_cases growth_long growth_terms growth_sessions stack; do
         compiled "tests/$test.c" "target/$test" -pthread -Iinclude target/staticlib/libleskofar.a
     done
 }

@@ -9,7 +9,7 @@
 enum { FILL = 0xA5, GUARD = 16, QUESTION = 2 * NUMBER };
 
 /* A scratch longer than need be, more questions than a script can have check-sats, and a script longer than may be. */
-enum { ROOM_SCRATCH = 2 * LESKOFAR_SCRATCH, ROOM_QUESTIONS = 8192 * QUESTION, ROOM_SCRIPT = LESKOFAR_SCRIPT_MOST + GUARD };
+enum { ROOM_SCRATCH = 16 * LESKOFAR_SCRATCH, ROOM_QUESTIONS = 8192 * QUESTION, ROOM_SCRIPT = LESKOFAR_SCRIPT_MOST + GUARD };
 
 /* A buffer between bytes that nobody may touch, with room for more than a call is given. */
 #define FRAMED(room) \

@@ -153,6 +153,7 @@ static void scratch_tests(void) {
                                      LESKOFAR_SCRATCH - 1,
                                      LESKOFAR_SCRATCH,
                                      LESKOFAR_SCRATCH + 1,
+                                     ROOM_SCRATCH / 2,
                                      ROOM_SCRATCH - 1,
                                      ROOM_SCRATCH};
     static const struct {

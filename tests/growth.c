@@ -1,5 +1,5 @@
 /* The writer as C sees it, each call alike: its book byte by byte, its buffers, a book that is bad, full or damaged. */
-#include "growth_calls.h"
+#include "refused_books.h"
 
 enum { BITS_PER_BYTE = 8 };
 
@@ -48,51 +48,12 @@ static void buffer_tests(const struct growth_call *call) {
     expect("a longer scratch is all zero", call->call(&lent).refusal == LESKOFAR_ACCEPTED && all_are(lent.scratch, sizeof lent.scratch, 0));
 }
 
-/* Books that are refused by themselves, each made from the small one. */
-static void bad_contents(struct records *r) {
-    lend(&lent, r);
-    lent.book_len--;
-}
-
-static void too_many(struct records *r) {
-    memset(r->letters, 'a', MOST_LETTERS + 1);
-    lend(&lent, r);
-}
-
-static void bad_letter(struct records *r) {
-    r->letters[0] = 0x1F;
-    lend(&lent, r);
-}
-
-static void no_forest(struct records *r) {
-    r->numbers[LISTS][1] = USED;
-    lend(&lent, r);
-}
-
-static void too_deep(struct records *r) {
-    for (uint32_t node = 2; node <= MOST_DEPTH + 1; node++) {
-        ADD(r, TERMS, 0, 1);
-        ADD(r, CONTEXTS, node - 1, (uint32_t)r->counts[TERMS] - 1, 0);
-    }
-    lend(&lent, r);
-}
-
-static void short_scratch(struct records *r) {
-    no_forest(r);
-    lent.scratch_len = LESKOFAR_SCRATCH - 1;
-}
-
 /* Whatever else is wrong with the call, the book received comes first. */
 static void received_tests(const struct growth_call *call) {
-    static void (*const make[])(struct records *) = {
-        [LESKOFAR_SHORT_SCRATCH] = short_scratch,    [LESKOFAR_BAD_CONTENTS] = bad_contents,
-        [LESKOFAR_COUNT_OVER_LIMIT] = too_many,      [LESKOFAR_FIELD_OUT_OF_RANGE] = bad_letter,
-        [LESKOFAR_NO_FOREST] = no_forest,            [LESKOFAR_TOO_DEEP] = too_deep,
-    };
     static struct records r;
     for (uint32_t refusal = LESKOFAR_SHORT_SCRATCH; refusal <= LESKOFAR_TOO_DEEP; refusal++) {
         r = small;
-        make[refusal](&r);
+        LEND_REFUSED[refusal](&lent, &r);
         expect(call->name, was_refused(&lent, call->call(&lent), refusal));
         lent.new_len = 0;
         memset(lent.scratch, FILL, sizeof lent.scratch);

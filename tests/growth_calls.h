@@ -13,12 +13,13 @@ struct lent {
     uint8_t book[ROOM_BOOK];
     size_t book_len;
     uint8_t scratch[LESKOFAR_SCRATCH + GUARD];
+    uint8_t *scratch_at; /* what a call gets: the one above, or another */
     size_t scratch_len;
     uint8_t new_book[ROOM_NEW];
     size_t new_len;
 };
 
-#define BOOK(l) (l)->book, (l)->book_len, (l)->scratch, (l)->scratch_len
+#define BOOK(l) (l)->book, (l)->book_len, (l)->scratch_at, (l)->scratch_len
 #define NEW(l) (l)->new_book, (l)->new_len
 #define TEXT(text) (const uint8_t *)(text), strlen(text)
 
@@ -153,6 +154,7 @@ enum { CALL_COUNT = sizeof CALLS / sizeof CALLS[0] };
 /* The buffers for calls on a book of these records. */
 static inline void lend(struct lent *l, const struct records *r) {
     l->book_len = write_records(l->book, r);
+    l->scratch_at = l->scratch;
     l->scratch_len = LESKOFAR_SCRATCH;
     l->new_len = LESKOFAR_BOOK;
     memset(l->scratch, FILL, sizeof l->scratch);

@@ -3,10 +3,10 @@
 #define MEASURED_STACK_H
 
 #include "expect.h"
+#include "stop_if.h"
 #include <leskofar.h>
 #include <limits.h>
 #include <pthread.h>
-#include <stdlib.h>
 #include <string.h>
 #include <sys/mman.h>
 
@@ -32,13 +32,6 @@ static inline void *run_job(void *given) {
     }
     job->used = (size_t)((uintptr_t)&here - (uintptr_t)(job->stack + clean));
     return NULL;
-}
-
-static inline void stop_if(int fault, const char *what) {
-    if (fault) {
-        fprintf(stderr, "cannot %s\n", what);
-        exit(EXIT_FAILURE);
-    }
 }
 
 /* Runs a call on a painted stack of a length, behind a page that may not be touched, and gives what it used. */

@@ -1,9 +1,7 @@
 /* The images that a turn is given and writes: with every bit turned, and in memory that may only be read, up to its very end. */
 #define _DEFAULT_SOURCE
+#include "guarded_pages.h"
 #include "turn_book.h"
-#include <stdlib.h>
-#include <sys/mman.h>
-#include <unistd.h>
 
 enum { BITS_PER_BYTE = 8 };
 
@@ -63,38 +61,6 @@ static void bit_tests(const struct turn *turn, const struct session *s) {
     }
     expect("images with a bit turned", are_good);
     expect("some of them sessions", sessions > 0);
-}
-
-/* Pages with so many bytes at their end, and behind them one that may not be touched. */
-struct pages {
-    uint8_t *all;
-    size_t size;
-    uint8_t *at;
-};
-
-static void stop_if(int fault, const char *what) {
-    if (fault) {
-        fprintf(stderr, "cannot %s\n", what);
-        exit(EXIT_FAILURE);
-    }
-}
-
-static struct pages pages_of(const uint8_t *bytes, size_t length, int rights) {
-    const long told = sysconf(_SC_PAGESIZE);
-    stop_if(told <= 0, "tell a page's size");
-    const size_t page = (size_t)told;
-    const size_t held = (length + page - 1) / page * page;
-    struct pages p = {NULL, held + page, NULL};
-    p.all = mmap(NULL, p.size, PROT_READ | PROT_WRITE, MAP_PRIVATE | MAP_ANONYMOUS, -1, 0);
-    stop_if(p.all == MAP_FAILED, "map pages");
-    p.at = p.all + held - length;
-    memcpy(p.at, bytes, length);
-    stop_if(mprotect(p.all, held, rights) != 0 || mprotect(p.all + held, page, PROT_NONE) != 0, "guard pages");
-    return p;
-}
-
-static void give_back(const struct pages *p) {
-    stop_if(munmap(p->all, p->size) != 0, "unmap pages");
 }
 
 /* Else the test ends in a signal: a refused turn may write its scratch alone. */

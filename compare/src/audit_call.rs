@@ -4,11 +4,12 @@
 
 use crate::audit_library::{self as library, Audited};
 use crate::buffers::Fenced;
+use crate::scratch_bytes::{are_left, LEAST};
 use crate::tally::Met;
 use leskofar_reference::audit::{Verdict, QUESTION_SIZE};
 use leskofar_reference::book_test::SCRATCH_SIZE;
 use leskofar_reference::commands::LINE_END;
-use leskofar_reference::refusal::{COUNT, SCRATCH_SHORT};
+use leskofar_reference::refusal::COUNT;
 use std::fmt::{Display, Formatter};
 use std::hint::black_box;
 
@@ -109,8 +110,8 @@ pub struct AuditCall<'b> {
 }
 
 impl AuditCall<'_> {
-    pub fn compare(self, scratch: usize, met: &mut Met<Outcome>) -> Result<Audited, String> {
-        let [mut theirs, mut ours] = [scratch; 2].map(Fenced::new);
+    pub fn compare(self, scratch: &[u8], met: &mut Met<Outcome>) -> Result<Audited, String> {
+        let [mut theirs, mut ours] = [scratch; 2].map(Fenced::holding);
         let answer =
             leskofar_reference::audit(self.book, theirs.room(), self.questions, self.script);
         let expected = told(answer);
@@ -120,14 +121,14 @@ impl AuditCall<'_> {
         met.add(self.outcome(expected));
         let what = if audited != expected {
             format!("{audited:?}, expected {expected:?}")
-        } else if ours != theirs || ours != scratch_after(scratch, audited.refusal) {
+        } else if !are_left([&ours, &theirs], scratch, audited.refusal) {
             format!("another scratch after {audited:?}")
         } else if *black_box(&handed) != self.handed() {
             format!("another book, questions or script after {audited:?}")
         } else {
             return Ok(audited);
         };
-        Err(format!("{what}, with scratch {scratch}, {}", self.said()))
+        Err(format!("{what}, with scratch {scratch:?}, {}", self.said()))
     }
 
     /// Book, questions and script, as the library gets them.
@@ -141,7 +142,7 @@ impl AuditCall<'_> {
 
     /// With the least scratch.
     pub fn compare_plainly(self, met: &mut Met<Outcome>) -> Result<Audited, String> {
-        self.compare(SCRATCH_SIZE, met)
+        self.compare(&LEAST, met)
     }
 
     /// The same, where the answer is known beforehand.
@@ -195,13 +196,4 @@ impl AuditCall<'_> {
         let [book, questions] = [self.book, self.questions];
         format!("of {script} for {questions:?} on {book:?}")
     }
-}
-
-/// Zero whole, or untouched under 1.
-fn scratch_after(length: usize, refusal: u32) -> Fenced {
-    let mut scratch = Fenced::new(length);
-    if refusal != SCRATCH_SHORT {
-        scratch.room().fill(0);
-    }
-    scratch
 }

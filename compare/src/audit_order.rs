@@ -4,22 +4,20 @@
 use crate::audit::Audits;
 use crate::audit_call::{AuditCall, Outcome, REFUSALS};
 use crate::made_books::{each_fault, full, good_books};
+use crate::scratch_bytes::{LEAST, LENGTHS};
 use crate::tally::Met;
 use leskofar_reference::audit::{Verdict, SCRIPT_MOST};
 use leskofar_reference::audit_samples::{
     bytes, lacking_function, script_of, Question, CHECK_SAT, POP, PUSH,
 };
 use leskofar_reference::book::INT;
-use leskofar_reference::book_test::SCRATCH_SIZE;
 use leskofar_reference::maker::Maker;
+use leskofar_reference::random::Random;
 use leskofar_reference::refusal::{
     CHECKS_DIFFER, FOREIGN_LINE, MISSING_AXIOM, NOT_IN_BOOK, SCRATCH_SHORT, TAG_IN_BOOK,
 };
-use std::ops::RangeInclusive;
 
-/// Scratches all around the least one, and shorter and longer ones.
-const AROUND: RangeInclusive<usize> = SCRATCH_SIZE - 2..=SCRATCH_SIZE + 2;
-const OTHERS: [usize; 4] = [0, 1, SCRATCH_SIZE / 2, 5_000];
+const SEED: u64 = 0x6F72_6465;
 
 /// Scripts of every length that counts, good and foreign.
 fn scripts() -> Vec<Vec<u8>> {
@@ -74,7 +72,7 @@ fn ladder(has_tag: bool) -> Ladder {
 }
 
 /// What is sent for the good question of a ladder, but for the check-sat.
-const GOOD_LEVELS: &str = "(push 1)
+pub const GOOD_LEVELS: &str = "(push 1)
 (assert true)
 (push 1)
 (push 1)
@@ -179,7 +177,7 @@ fn compare_faulty_books(m: &Maker, met: &mut Met<Outcome>) -> Result<(), String>
     for book in &each_fault(m) {
         for script in &scripts() {
             for questions in &questions {
-                for scratch in [SCRATCH_SIZE - 1, SCRATCH_SIZE] {
+                for scratch in [&LEAST[1..], &LEAST] {
                     let call = AuditCall {
                         book,
                         questions,
@@ -203,16 +201,17 @@ fn every_scratch(met: &mut Met<Outcome>) -> Result<String, String> {
         (&one, CHECK_SAT),
         (&one, &checked),
     ];
+    let mut random = Random::new(SEED);
     for m in good_books() {
         let book = &m.book();
         for (questions, script) in scripts {
-            for scratch in AROUND.chain(OTHERS) {
+            for length in LENGTHS {
                 let call = AuditCall {
                     book,
                     questions,
                     script: script.as_bytes(),
                 };
-                call.compare(scratch, met)?;
+                call.compare(&random.bytes(length), met)?;
             }
         }
     }

@@ -9,7 +9,7 @@ use crate::audit_changes::{
 };
 use crate::audit_foreign::{ForeignWriter, Manners};
 use crate::audit_own::{Own, OWN_SHAPES};
-use crate::random_inputs::scratch_length;
+use crate::scratch_bytes::random_scratch;
 use crate::tally::Met;
 use leskofar_reference::audit::Verdict;
 use leskofar_reference::audit_samples::{bytes, Question};
@@ -185,8 +185,8 @@ fn questions_group(audits: &mut Audits) {
                 questions: &changed_questions(&mut random, change, &questions, &asked.maker),
                 script: &ForeignWriter::script(&mut random, manners, &asked.stacks),
             };
-            let scratch = scratch_length(&mut random);
-            call.compare(scratch, met)
+            let scratch = random_scratch(&mut random);
+            call.compare(&scratch, met)
                 .map_err(|what| format!("{change}: {what}"))?;
         }
         met.all_of(&[1, 7, 9, 26, 27].map(Outcome::Refused))?;
@@ -218,7 +218,7 @@ fn compare_damaged(random: &mut Random, own: &Own, met: &mut Met<Outcome>) -> Re
         questions: &questions,
         script: &script,
     };
-    call.compare(scratch_length(random), met).map(|_| ())
+    call.compare(&random_scratch(random), met).map(|_| ())
 }
 
 fn damage_group(audits: &mut Audits) {

@@ -1,61 +1,39 @@
-//! The book test against the reference: the answer, and every scratch byte.
+//! The book test against the reference.
 
-use crate::library;
+use crate::book_call::compare;
 use crate::made_books::{
     chain, each_number_changed, faulty_books, full, good_books, over_the_limits, too_deep_at,
 };
+use crate::scratch_bytes::{random_scratch, LEAST, LENGTHS};
 use crate::tally::{Met, Tally};
 use leskofar_reference::book::Section;
-use leskofar_reference::book_test::{MOST_DEPTH, SCRATCH_SIZE};
+use leskofar_reference::book_test::MOST_DEPTH;
 use leskofar_reference::damage::damaged;
-use leskofar_reference::random::{Random, HARDLY_EVER, OFTEN};
+use leskofar_reference::random::{Random, OFTEN};
 use leskofar_reference::random_books::{random_book, Counts};
 use leskofar_reference::refusal::DEPTH;
 
-/// What a scratch holds before the call.
-const FILL: u8 = 0xA5;
 /// Random books, valid and damaged.
 const RANDOM_BOOKS: usize = 200_000;
 const SEED: u64 = 0x6C65_736B;
 /// The usual sizes of random books.
 const SIZES: [usize; 6] = [0, 1, 2, 4, 8, 24];
-/// How much longer than the least a scratch is, at most.
-const LONGER: usize = 4;
-/// Scratches around the least one that is taken, and a longer one.
-const SCRATCHES: [usize; 5] = [0, 1, SCRATCH_SIZE - 1, SCRATCH_SIZE, SCRATCH_SIZE + 77];
-
 /// Depths around the deepest, and around those that were borders before.
 const DEPTHS: [usize; 11] = [63, 64, 65, 66, 255, 256, 257, 399, 400, 401, 512];
-
-fn compare(book: &[u8], scratch: usize, met: &mut Met) -> Result<(), String> {
-    let mut theirs = vec![FILL; scratch];
-    let mut ours = vec![FILL; scratch];
-    let expected = leskofar_reference::book_test(book, &mut theirs)
-        .err()
-        .unwrap_or(0);
-    let answer = library::book_test(book, &mut ours);
-    met.add(expected);
-    if answer != expected {
-        return Err(format!("answer {answer}, expected {expected}, of {book:?}"));
-    }
-    if ours != theirs {
-        return Err(format!("another scratch after {expected}, of {book:?}"));
-    }
-    Ok(())
-}
 
 fn compare_all(books: &[Vec<u8>], met: &mut Met) -> Result<(), String> {
     books
         .iter()
-        .try_for_each(|book| compare(book, SCRATCH_SIZE, met))
+        .try_for_each(|book| compare(book, &LEAST, met).map(|_| ()))
 }
 
 pub fn run(tally: &mut Tally) {
     tally.group("book test, good books, every scratch", || {
         let mut met = Met::default();
+        let mut random = Random::new(SEED);
         for m in good_books() {
-            for scratch in SCRATCHES {
-                compare(&m.book(), scratch, &mut met)?;
+            for length in LENGTHS {
+                compare(&m.book(), &random.bytes(length), &mut met)?;
             }
         }
         met.all_of(&[0, 1])
@@ -64,19 +42,19 @@ pub fn run(tally: &mut Tally) {
         let mut met = Met::default();
         compare_all(&over_the_limits(), &mut met)?;
         for depth in DEPTHS {
-            compare(&chain(depth).book(), SCRATCH_SIZE, &mut met)?;
+            compare(&chain(depth).book(), &LEAST, &mut met)?;
         }
         for letter in [0x1F, 0x20, 0x7E, 0x7F] {
             let mut m = full();
             m.letters.push(letter);
-            compare(&m.book(), SCRATCH_SIZE, &mut met)?;
+            compare(&m.book(), &LEAST, &mut met)?;
         }
         met.all_of(&[0, 2, 3, 4, 6])
     });
     tally.group("book test, a node 401 deep at each place", || {
         let mut met = Met::default();
         for node in MOST_DEPTH + 1..=Section::Contexts.most() {
-            compare(&too_deep_at(node).book(), SCRATCH_SIZE, &mut met)?;
+            compare(&too_deep_at(node).book(), &LEAST, &mut met)?;
         }
         met.only(&[DEPTH])
     });
@@ -84,11 +62,11 @@ pub fn run(tally: &mut Tally) {
         let mut met = Met::default();
         let book = full().book();
         for length in 0..=book.len() {
-            compare(&book[..length], SCRATCH_SIZE, &mut met)?;
+            compare(&book[..length], &LEAST, &mut met)?;
         }
         let mut longer = book.clone();
         longer.push(0);
-        compare(&longer, SCRATCH_SIZE, &mut met)?;
+        compare(&longer, &LEAST, &mut met)?;
         met.all_of(&[0, 2])
     });
     tally.group("book test, every number at every border", || {
@@ -96,7 +74,7 @@ pub fn run(tally: &mut Tally) {
         let mut first = Ok(());
         each_number_changed(&full(), &mut |book| {
             if first.is_ok() {
-                first = compare(book, SCRATCH_SIZE, &mut met);
+                first = compare(book, &LEAST, &mut met).map(|_| ());
             }
         });
         first?;
@@ -120,12 +98,7 @@ pub fn run(tally: &mut Tally) {
             } else {
                 damaged(&mut random, &m)
             };
-            let scratch = if random.one_in(HARDLY_EVER) {
-                SCRATCH_SIZE - 1
-            } else {
-                SCRATCH_SIZE + random.below(LONGER)
-            };
-            compare(&book, scratch, &mut met)?;
+            compare(&book, &random_scratch(&mut random), &mut met)?;
         }
         met.all_of(&[0, 1, 2, 3, 4, 5, 6])
     });

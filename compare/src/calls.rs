@@ -2,6 +2,7 @@
 //! every byte of image, text, reason and scratch and behind them.
 
 use crate::buffers::Fenced;
+use crate::scratch_bytes::are_left;
 use crate::session_library::{self as library, Answer, Buffers, PROVED, UNPROVED, WRITTEN};
 use leskofar_reference::book_test::SCRATCH_SIZE;
 use leskofar_reference::session::{self as reference, Replied};
@@ -31,11 +32,12 @@ pub enum Call {
     },
 }
 
-/// What a call is given: its book and image, and the lengths of its buffers.
+/// What a call is given: its book and image, what the scratch holds, and the
+/// lengths of its buffers.
 pub struct Given<'b> {
     pub book: &'b [u8],
     pub image: &'b [u8],
-    pub scratch: usize,
+    pub scratch: &'b [u8],
     pub text: usize,
     pub reason: usize,
 }
@@ -132,16 +134,15 @@ impl Call {
     pub fn compare(&self, given: &Given) -> Result<Left, String> {
         let theirs = left(given, |b| self.on_reference(given.book, b));
         let ours = left(given, |b| self.on_library(given.book, b));
-        if ours == theirs {
-            return Ok(ours);
-        }
         let what = if ours.answer != theirs.answer {
             format!("{:?}, expected {:?}", ours.answer, theirs.answer)
+        } else if let Some(part) = other_part(&ours, &theirs, given.scratch) {
+            format!("another {part} after {:?}", ours.answer)
         } else {
-            format!("another {}", other_part(&ours, &theirs))
+            return Ok(ours);
         };
         Err(format!(
-            "{what}, of {self:?} with scratch {}, text {}, reason {}, image {:?}, book {:?}",
+            "{what}, of {self:?} with scratch {:?}, text {}, reason {}, image {:?}, book {:?}",
             given.scratch, given.text, given.reason, given.image, given.book
         ))
     }
@@ -149,8 +150,8 @@ impl Call {
 
 fn left(given: &Given, call: impl FnOnce(&mut Buffers) -> Answer) -> Left {
     let mut image = Fenced::holding(given.image);
-    let [mut scratch, mut text, mut reason] =
-        [given.scratch, given.text, given.reason].map(Fenced::new);
+    let mut scratch = Fenced::holding(given.scratch);
+    let [mut text, mut reason] = [given.text, given.reason].map(Fenced::new);
     let answer = call(&mut Buffers {
         scratch: scratch.room(),
         image: image.room(),
@@ -166,16 +167,20 @@ fn left(given: &Given, call: impl FnOnce(&mut Buffers) -> Answer) -> Left {
     }
 }
 
-fn other_part(ours: &Left, theirs: &Left) -> &'static str {
-    if ours.image != theirs.image {
-        "image"
-    } else if ours.text != theirs.text {
-        "text"
-    } else if ours.reason != theirs.reason {
-        "reason"
-    } else {
-        "scratch"
-    }
+/// What differs, after the same answer.
+fn other_part(ours: &Left, theirs: &Left, scratch: &[u8]) -> Option<&'static str> {
+    let scratches = [&ours.scratch, &theirs.scratch];
+    let differing = [
+        (ours.image != theirs.image, "image"),
+        (ours.text != theirs.text, "text"),
+        (ours.reason != theirs.reason, "reason"),
+        (
+            !are_left(scratches, scratch, ours.answer.refusal),
+            "scratch",
+        ),
+    ];
+    let first = differing.into_iter().find(|(differs, _)| *differs);
+    first.map(|(_, part)| part)
 }
 
 fn refused(refusal: u32) -> Answer {

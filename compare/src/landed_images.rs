@@ -3,10 +3,10 @@
 
 use crate::calls::{Call, Given, OK};
 use crate::made_turns::declaring;
+use crate::scratch_bytes::LEAST;
 use crate::sessions::END;
 use crate::tally::{Met, Tally};
 use crate::turn_call::{Turn, Turned, TurnsMet};
-use leskofar_reference::book_test::SCRATCH_SIZE;
 use leskofar_reference::maker::{sample, Maker};
 use leskofar_reference::refusal::SESSION;
 use leskofar_reference::session::UNSAT;
@@ -107,7 +107,7 @@ fn compare(m: &Maker, landed: &Landed, met: &mut TurnsMet) -> Result<(), String>
         let left = landed.next.compare(&Given {
             book,
             image,
-            scratch: SCRATCH_SIZE,
+            scratch: &LEAST,
             text: ROOM,
             reason: ROOM,
         })?;

@@ -8,7 +8,8 @@ use crate::made_books::{chain, faulty_books, full, good_books};
 use crate::made_rules::missing_axiom;
 use crate::made_terms::borders;
 use crate::printed::{compare, left, rooms_around, told, Left, LONGER, ON_A_BOOK, SHORT_ROOMS};
-use crate::random_inputs::{any_book, any_number, any_term, good_book, scratch_length};
+use crate::random_inputs::{any_book, any_number, any_term, good_book};
+use crate::scratch_bytes::{random_scratch, LEAST};
 use crate::session_books::{chain_book, DEEP};
 use crate::shapes::SHAPES;
 use crate::tally::{Met, Tally};
@@ -43,7 +44,7 @@ pub struct Listing<'b> {
 
 impl Listing<'_> {
     /// Gives what the library left.
-    pub fn compare(self, room: usize, scratch: usize, met: &mut Met) -> Result<Left, String> {
+    pub fn compare(self, room: usize, scratch: &[u8], met: &mut Met) -> Result<Left, String> {
         let Listing { book, node, goal } = self;
         let theirs = left(room, scratch, |scratch, text| {
             told(leskofar_reference::listing(book, scratch, node, goal, text))
@@ -51,8 +52,8 @@ impl Listing<'_> {
         let ours = left(room, scratch, |scratch, text| {
             library::listing(book, scratch, node, goal, text)
         });
-        compare(met, theirs, ours, || {
-            format!("buffer {room}, scratch {scratch}, {self:?}")
+        compare(met, theirs, ours, scratch, || {
+            format!("buffer {room}, {self:?}")
         })
     }
 
@@ -82,7 +83,7 @@ impl Listing<'_> {
             (0, SHORT_ROOMS.to_vec())
         };
         for room in rooms {
-            self.compare(room, SCRATCH_SIZE, met)?;
+            self.compare(room, &LEAST, met)?;
         }
         Ok(length)
     }
@@ -128,7 +129,7 @@ fn small_groups(tally: &mut Tally) {
                 for goal in 0..program.terms.len() as u32 {
                     let call = Listing { book, node, goal };
                     for room in 0..=call.length(&program) as usize + LONGER {
-                        call.compare(room, SCRATCH_SIZE, &mut met)?;
+                        call.compare(room, &LEAST, &mut met)?;
                     }
                 }
             }
@@ -227,14 +228,14 @@ fn random_groups(tally: &mut Tally) {
                 goal,
             };
             let room = random.up_to(SOME_ROOM);
-            call.compare(room, scratch_length(&mut random), &mut met)?;
+            call.compare(room, &random_scratch(&mut random), &mut met)?;
         }
         met.all_of(&ON_A_BOOK)
     });
     tally.group("listing, every refusal with every later one", || {
         let mut met = Met::default();
         for book in &faulty_books() {
-            for scratch in [SCRATCH_SIZE - 1, SCRATCH_SIZE] {
+            for scratch in [&LEAST[1..], &LEAST] {
                 for [node, goal] in [[0, 0], [0, u32::MAX], [u32::MAX, 0], [u32::MAX; 2]] {
                     for room in [0, SOME_ROOM] {
                         Listing { book, node, goal }.compare(room, scratch, &mut met)?;

@@ -4,9 +4,10 @@ use crate::listing::{checked, compare_each, Listing};
 use crate::made_costly::{longest, overlapping};
 use crate::made_terms::{long_names, nests, path_of};
 use crate::printed::{rooms_around, LONGEST};
+use crate::scratch_bytes::LEAST;
 use crate::tally::{Met, Tally};
 use leskofar_reference::book::Section;
-use leskofar_reference::book_test::{MOST_DEPTH, SCRATCH_SIZE};
+use leskofar_reference::book_test::MOST_DEPTH;
 use leskofar_reference::maker::Maker;
 
 /// Entries that all ranges share, of a text that is still written.
@@ -50,7 +51,7 @@ fn compare_wrapped(met: &mut Met) -> Result<(), String> {
     let m = longest(letters as usize, 1);
     let book = m.book();
     for room in rooms_around(rest, 0) {
-        last(&m, &book).compare(room, SCRATCH_SIZE, met)?;
+        last(&m, &book).compare(room, &LEAST, met)?;
     }
     Ok(())
 }

@@ -9,12 +9,13 @@ use crate::calls::{Call, Given, Left, Measure};
 use crate::damaged_images::foreign;
 use crate::random_calls::random_call;
 use crate::sane::is_sane;
+use crate::scratch_bytes::{random_scratch, LEAST};
 use crate::seen::Seen;
 use crate::session_library::{self as library, PROVED, UNPROVED};
 use crate::session_shapes::{cyclic, Travelled};
 use crate::strict::Strict;
 use leskofar_reference::book::Book;
-use leskofar_reference::book_test::{check, SCRATCH_SIZE};
+use leskofar_reference::book_test::check;
 use leskofar_reference::commands::LINE_END;
 use leskofar_reference::damage::damaged;
 use leskofar_reference::image::{Kind, Owed, Session, IMAGE_SIZE};
@@ -27,7 +28,6 @@ use std::collections::BTreeSet;
 
 /// How much longer than its text a buffer is.
 const LONGER: [usize; 4] = [1, 2, 9, 4096];
-const SHORT_SCRATCHES: [usize; 3] = [0, 1, SCRATCH_SIZE - 1];
 
 pub struct List {
     maker: Maker,
@@ -132,7 +132,7 @@ impl List {
         let left = call.compare(&Given {
             book: &self.book,
             image: &self.image,
-            scratch: SCRATCH_SIZE,
+            scratch: &LEAST,
             text,
             reason,
         })?;
@@ -240,11 +240,6 @@ impl List {
         if random.one_in(OFTEN) {
             book = damaged(random, &self.maker);
         }
-        let scratch = if random.one_in(RARELY) {
-            random.pick(&SHORT_SCRATCHES)
-        } else {
-            SCRATCH_SIZE + random.pick(&LONGER)
-        };
         let session = Session::read(Kind::Wide, &image);
         let owed = session.map_or(Owed::Nothing, |session| session.owed);
         let call = random_call(random, &self.maker, owed);
@@ -253,7 +248,7 @@ impl List {
         let left = call.compare(&Given {
             book: &book,
             image: &image,
-            scratch,
+            scratch: &random_scratch(random),
             text,
             reason,
         })?;

@@ -3,6 +3,7 @@
 use crate::nodes_call::bytes;
 use crate::writer_call::{Growth, Trace};
 use leskofar_reference::book::{kind, INT, TERM_FIELDS};
+use leskofar_reference::program::ROOT;
 
 /// What stands where no trace is given; it is not looked at.
 const NOT_LOOKED_AT: &[u8] = b"not looked at\n";
@@ -49,15 +50,19 @@ pub const CALL_NAMES: [&str; 8] = [
 /// Each call with a text of its own, on a book with a name, a constant, and
 /// this term and the next, which nothing refers to.
 pub fn each_call(term: u32, text: &[u8]) -> [Growth; 8] {
-    let root = 0;
+    each_call_below(ROOT as u32, term, text)
+}
+
+/// The same, with another parent for the nodes.
+pub fn each_call_below(parent: u32, term: u32, text: &[u8]) -> [Growth; 8] {
     [
         name(text),
         Growth::Constant(0, INT),
         self::term([kind::BUILT_IN, 0, 0, 0, 0, 0, 0], [&[term, term + 1], &[]]),
-        Growth::Node(root, term, 1),
-        extend(root, term, Some(text)),
-        Growth::Equality(root, 0, term),
-        record(root, term, INT, Some(text)),
-        trace_point(root, text),
+        Growth::Node(parent, term, 1),
+        extend(parent, term, Some(text)),
+        Growth::Equality(parent, 0, term),
+        record(parent, term, INT, Some(text)),
+        trace_point(parent, text),
     ]
 }

@@ -30,9 +30,11 @@ mod bench_table;
 mod bench_turns;
 mod bench_writer;
 mod book;
+mod book_call;
 mod buffers;
 mod calls;
 mod damaged_images;
+mod forests;
 mod image_places;
 mod landed_images;
 mod library;
@@ -69,8 +71,14 @@ mod printed;
 mod printing;
 mod random_calls;
 mod random_inputs;
+mod references;
+mod referring;
 mod sane;
 mod sane_books;
+mod scratch_bytes;
+mod scratch_calls;
+mod scratch_cases;
+mod scratches;
 mod script;
 mod seen;
 mod session_books;
@@ -113,8 +121,10 @@ use std::thread;
 use tally::Tally;
 
 /// What is compared, part by part.
-const PARTS: [fn(&mut Tally); 15] = [
+const PARTS: [fn(&mut Tally); 17] = [
     book::run,
+    scratches::run,
+    references::run,
     printing::run,
     listing::run,
     sessions::run,

@@ -7,13 +7,13 @@ use crate::listing::{compare_each, Listing};
 use crate::lists::on_book;
 use crate::made_terms::{flat_numbers, nests_of_number};
 use crate::print_call::{compare_last, compare_terms, Print, FLAGS, ONE_LINE};
+use crate::scratch_bytes::LEAST;
 use crate::seen::{Seen, RESULTS};
 use crate::session_tours::tour;
 use crate::sessions::{follow, END};
 use crate::strict_lists::{ask_all, checked_as_sane};
 use crate::tally::{Met, Tally};
 use leskofar_reference::book::{Section, INT};
-use leskofar_reference::book_test::SCRATCH_SIZE;
 use leskofar_reference::maker::{sample, Maker};
 use leskofar_reference::refusal::TOO_LONG;
 use leskofar_reference::session::UNSAT;
@@ -78,7 +78,7 @@ fn printed(m: &Maker, term: u32, newlines: u32, indent: u64) -> Result<String, S
         newlines,
         indent,
     };
-    let left = call.compare(ROOM, SCRATCH_SIZE, &mut Met::default())?;
+    let left = call.compare(ROOM, &LEAST, &mut Met::default())?;
     Ok(String::from_utf8_lossy(left.text()).into_owned())
 }
 
@@ -89,7 +89,7 @@ fn listed(m: &Maker, goal: u32) -> Result<String, String> {
         node: 0,
         goal,
     };
-    let left = call.compare(ROOM, SCRATCH_SIZE, &mut Met::default())?;
+    let left = call.compare(ROOM, &LEAST, &mut Met::default())?;
     Ok(String::from_utf8_lossy(left.text()).into_owned())
 }
 

@@ -11,16 +11,15 @@ use crate::nodes_limits;
 use crate::nodes_random::{nodes_book, nodes_list};
 use crate::nodes_shapes::{visit_failing, visit_list, NODES_SHAPES};
 use crate::nodes_terms::{every_order_in_a_term, every_place_of_a_term};
-use crate::random_inputs::scratch_length;
+use crate::scratch_bytes::{random_scratch, LEAST, LENGTHS};
 use crate::tally::{Met, Tally};
 use leskofar_reference::book::NUMBER_SIZE;
-use leskofar_reference::book_test::{check, SCRATCH_SIZE};
+use leskofar_reference::book_test::check;
 use leskofar_reference::damage::damaged;
 use leskofar_reference::levels::Levels;
 use leskofar_reference::nodes::MOST_NODES;
 use leskofar_reference::program::Program;
 use leskofar_reference::random::{Random, RARELY};
-use std::ops::RangeInclusive;
 
 const SEED: u64 = 0x6E6F_6465;
 /// Random lists, and how many there are of one book.
@@ -28,13 +27,10 @@ const RANDOM_LISTS: usize = 100_000;
 const LISTS_OF_A_BOOK: usize = 4;
 /// How often a random list is held against moves too, as `one_in`.
 const MOVED: usize = 4;
-/// Scratches: all around the least one that is taken, and shorter and longer
-/// ones.
-const AROUND: RangeInclusive<usize> = SCRATCH_SIZE - 4..=SCRATCH_SIZE + 4;
-const OTHERS: [usize; 5] = [0, 1, SCRATCH_SIZE / 2, 2 * SCRATCH_SIZE, 5_000];
-/// Books with more nodes are tried with the first few of these alone.
+/// Books with more nodes are tried with the first few lengths of scratches
+/// alone, which go a byte beyond the least that is taken.
 const MANY: usize = 64;
-const FEW: usize = 6;
+const FEW: usize = 5;
 /// How calls end.
 pub const PASS_OR_FAIL: [Outcome; 3] =
     [Outcome::Passed, Outcome::FailedAtOnce, Outcome::FailedLater];
@@ -106,7 +102,7 @@ fn made_groups(tally: &mut Tally) {
             let nodes = &bytes(&all);
             each_number_changed(&lacking.maker, &mut |book| {
                 if first.is_ok() {
-                    let tested = NodesCall { book, nodes }.compare(SCRATCH_SIZE, &mut met);
+                    let tested = NodesCall { book, nodes }.compare(&LEAST, &mut met);
                     first = tested.map(|_| ());
                 }
             });
@@ -123,7 +119,7 @@ fn refusal_groups(tally: &mut Tally) {
         let nodes = full().contexts.len() as u32;
         for book in &faulty_books() {
             for nodes in &lists(nodes) {
-                for scratch in [0, SCRATCH_SIZE - 1, SCRATCH_SIZE] {
+                for scratch in [&[], &LEAST[1..], &LEAST] {
                     NodesCall { book, nodes }.compare(scratch, &mut met)?;
                 }
             }
@@ -132,18 +128,19 @@ fn refusal_groups(tally: &mut Tally) {
     });
     tally.group("nodes, every scratch", || {
         let mut met = Met::default();
+        let mut random = Random::new(SEED);
         let made = lacking_books().into_iter().map(|lacking| lacking.maker);
         for m in good_books().into_iter().chain(made) {
             let book = &m.book();
             for nodes in &lists(m.contexts.len() as u32) {
-                let all = AROUND.chain(OTHERS);
-                let few = if m.contexts.len() > MANY {
-                    FEW
+                let lengths = if m.contexts.len() > MANY {
+                    &LENGTHS[..FEW]
                 } else {
-                    usize::MAX
+                    &LENGTHS
                 };
-                for scratch in all.take(few) {
-                    NodesCall { book, nodes }.compare(scratch, &mut met)?;
+                for length in lengths {
+                    let scratch = random.bytes(*length);
+                    NodesCall { book, nodes }.compare(&scratch, &mut met)?;
                 }
             }
         }
@@ -189,7 +186,7 @@ fn lists_of_a_book(random: &mut Random, moves: &mut Moves, seen: &mut Seen) -> R
             book: &book,
             nodes: &nodes_list(random, m.contexts.len()),
         };
-        let tested = call.compare(scratch_length(random), &mut seen.met)?;
+        let tested = call.compare(&random_scratch(random), &mut seen.met)?;
         let accepted = program.as_ref().filter(|_| tested.refusal == 0);
         if let Some(program) = accepted {
             visit(program, call.nodes, tested, &mut seen.shapes);

@@ -4,6 +4,7 @@
 
 use crate::buffers::Fenced;
 use crate::nodes_library::{self as library, NodesTested, FAILS, PASS};
+use crate::scratch_bytes::{are_left, LEAST};
 use crate::session_library::{self, Buffers};
 use crate::strict::{is_readable, read_whole};
 use crate::tally::Met;
@@ -80,8 +81,8 @@ pub struct NodesCall<'b> {
 }
 
 impl NodesCall<'_> {
-    pub fn compare(self, scratch: usize, met: &mut Met<Outcome>) -> Result<NodesTested, String> {
-        let [mut theirs, mut ours] = [scratch; 2].map(Fenced::new);
+    pub fn compare(self, scratch: &[u8], met: &mut Met<Outcome>) -> Result<NodesTested, String> {
+        let [mut theirs, mut ours] = [scratch; 2].map(Fenced::holding);
         let expected = told(leskofar_reference::nodes_test(
             self.book,
             theirs.room(),
@@ -96,14 +97,14 @@ impl NodesCall<'_> {
             *black_box(&book) == self.book && black_box(&nodes)[..self.nodes.len()] == *self.nodes;
         let what = if tested != expected {
             format!("{tested:?}, expected {expected:?}")
-        } else if ours != theirs {
+        } else if !are_left([&ours, &theirs], scratch, tested.refusal) {
             format!("another scratch after {tested:?}")
         } else if !stayed {
             format!("another book or list after {tested:?}")
         } else {
             return Ok(tested);
         };
-        Err(format!("{what}, with scratch {scratch}, of {self:?}"))
+        Err(format!("{what}, with scratch {scratch:?}, of {self:?}"))
     }
 
     /// With the least scratch, where the answer is known beforehand.
@@ -112,7 +113,7 @@ impl NodesCall<'_> {
         answer: Result<Option<usize>, u32>,
         met: &mut Met<Outcome>,
     ) -> Result<NodesTested, String> {
-        let tested = self.compare(SCRATCH_SIZE, met)?;
+        let tested = self.compare(&LEAST, met)?;
         if tested == told(answer) {
             Ok(tested)
         } else {

@@ -6,9 +6,10 @@ use crate::nodes::PASS_OR_FAIL;
 use crate::nodes_books::lacking_books;
 use crate::nodes_call::{bytes, NodesCall, Outcome};
 use crate::nodes_trees::planted;
+use crate::scratch_bytes::LEAST;
 use crate::tally::{Met, Tally};
 use leskofar_reference::book::NUMBER_SIZE;
-use leskofar_reference::book_test::{MOST_DEPTH, SCRATCH_SIZE};
+use leskofar_reference::book_test::MOST_DEPTH;
 use leskofar_reference::maker::{sample, Maker};
 use leskofar_reference::nodes::MOST_NODES;
 use leskofar_reference::refusal::{COUNT, NOT_IN_BOOK};
@@ -77,7 +78,7 @@ fn compare_number(m: &Maker, number: u32, met: &mut Met<Outcome>) -> Result<(), 
         ] {
             let nodes = &bytes(list);
             let call = NodesCall { book, nodes };
-            let tested = call.compare(SCRATCH_SIZE, met)?;
+            let tested = call.compare(&LEAST, met)?;
             if (number > last) != (tested.refusal == NOT_IN_BOOK) {
                 return Err(format!("{tested:?}, of {call:?}"));
             }

@@ -7,9 +7,10 @@ use crate::nodes::PASS_OR_FAIL;
 use crate::nodes_call::{bytes, Moves, NodesCall, Outcome};
 use crate::nodes_random::lacking_tree;
 use crate::nodes_trees::{chains, comb, failing, planted, star, Parents, MOST_TEETH, SPINE};
+use crate::scratch_bytes::LEAST;
 use crate::tally::{Met, Tally};
 use leskofar_reference::book::{Section, NO_TERM};
-use leskofar_reference::book_test::{check, MOST_DEPTH, SCRATCH_SIZE};
+use leskofar_reference::book_test::{check, MOST_DEPTH};
 use leskofar_reference::levels::Levels;
 use leskofar_reference::maker::Maker;
 use leskofar_reference::nodes::MOST_NODES;
@@ -181,7 +182,7 @@ fn nest_group(tally: &mut Tally) {
                 book: &m.book(),
                 nodes,
             };
-            let tested = call.compare(SCRATCH_SIZE, &mut met);
+            let tested = call.compare(&LEAST, &mut met);
             tested
                 .and_then(|tested| call.compare_with_moves(tested, &mut moves))
                 .map_err(|what| format!("{name}: {what}"))?;

@@ -2,9 +2,10 @@
 
 use crate::library;
 use crate::printed::{compare, left, rooms_around, told, Left};
+use crate::scratch_bytes::LEAST;
 use crate::strict_prints::Prints;
 use crate::tally::Met;
-use leskofar_reference::book_test::{check, SCRATCH_SIZE};
+use leskofar_reference::book_test::check;
 use leskofar_reference::lower::to_sexpr;
 use leskofar_reference::maker::Maker;
 use leskofar_reference::program::Program;
@@ -29,7 +30,7 @@ pub struct Print<'b> {
 
 impl Print<'_> {
     /// Gives what the library left.
-    pub fn compare(self, room: usize, scratch: usize, met: &mut Met) -> Result<Left, String> {
+    pub fn compare(self, room: usize, scratch: &[u8], met: &mut Met) -> Result<Left, String> {
         let Print {
             book,
             term,
@@ -46,8 +47,8 @@ impl Print<'_> {
         let ours = left(room, scratch, |scratch, text| {
             library::print(book, scratch, term, tag, newlines, indent, text)
         });
-        compare(met, theirs, ours, || {
-            format!("buffer {room}, scratch {scratch}, {self:?}")
+        compare(met, theirs, ours, scratch, || {
+            format!("buffer {room}, {self:?}")
         })
     }
 
@@ -72,7 +73,7 @@ impl Print<'_> {
         prints: &mut Prints,
     ) -> Result<(), String> {
         for room in rooms_around(length, longer) {
-            let left = self.compare(room, SCRATCH_SIZE, met)?;
+            let left = self.compare(room, &LEAST, met)?;
             if room > 0 && left.text().len() == room {
                 prints.read(left.text())?;
             }

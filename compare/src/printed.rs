@@ -1,13 +1,11 @@
 //! What a printing call leaves, of the library and of the reference: the
-//! answer, every byte of the text, every byte behind it, and every scratch
-//! byte.
+//! answer, and every byte of text and scratch and behind them.
 
 use crate::buffers::Fenced;
 use crate::library::Printed;
+use crate::scratch_bytes::are_left;
 use crate::tally::Met;
 
-/// What a scratch holds before a call.
-const FILL: u8 = 0xA5;
 /// A text longer than this gets only buffers that are too short.
 pub const LONGEST: u64 = 1 << 24;
 pub const SHORT_ROOMS: [usize; 3] = [0, 1, 100];
@@ -17,14 +15,18 @@ pub const LONGER: usize = 9;
 pub const ON_A_BOOK: [u32; 9] = [0, 1, 2, 3, 4, 5, 6, 7, 10];
 
 /// What a call leaves.
-#[derive(PartialEq)]
 pub struct Left {
     answer: Printed,
     text: Fenced,
-    scratch: Vec<u8>,
+    scratch: Fenced,
 }
 
 impl Left {
+    /// 0 where the call is accepted.
+    pub fn refusal(&self) -> u32 {
+        self.answer.refusal
+    }
+
     pub fn text(&self) -> &[u8] {
         &self.text.content()[..self.answer.length as usize]
     }
@@ -33,12 +35,12 @@ impl Left {
 /// Runs a call with a text buffer of `room` bytes and bytes behind it.
 pub fn left(
     room: usize,
-    scratch: usize,
+    scratch: &[u8],
     call: impl FnOnce(&mut [u8], &mut [u8]) -> Printed,
 ) -> Left {
     let mut text = Fenced::new(room);
-    let mut scratch = vec![FILL; scratch];
-    let answer = call(&mut scratch, text.room());
+    let mut scratch = Fenced::holding(scratch);
+    let answer = call(scratch.room(), text.room());
     Left {
         answer,
         text,
@@ -57,27 +59,26 @@ pub fn told(answer: Result<usize, u32>) -> Printed {
     }
 }
 
-/// Compares what both leave; `what` says which call it was. Gives what the
-/// library left.
+/// Compares what both leave, where the scratch held this before; `call` says
+/// which call it was. Gives what the library left.
 pub fn compare(
     met: &mut Met,
     theirs: Left,
     ours: Left,
-    what: impl FnOnce() -> String,
+    scratch: &[u8],
+    call: impl FnOnce() -> String,
 ) -> Result<Left, String> {
-    met.add(theirs.answer.refusal);
-    if ours.answer != theirs.answer {
-        let [ours, theirs] = [ours.answer, theirs.answer];
-        return Err(format!("{ours:?}, expected {theirs:?}, of {}", what()));
-    }
-    if ours != theirs {
-        return Err(format!(
-            "other bytes after {:?}, of {}",
-            ours.answer,
-            what()
-        ));
-    }
-    Ok(ours)
+    met.add(theirs.refusal());
+    let what = if ours.answer != theirs.answer {
+        format!("{:?}, expected {:?}", ours.answer, theirs.answer)
+    } else if ours.text != theirs.text {
+        format!("another text after {:?}", ours.answer)
+    } else if !are_left([&ours.scratch, &theirs.scratch], scratch, ours.refusal()) {
+        format!("another scratch after {:?}", ours.answer)
+    } else {
+        return Ok(ours);
+    };
+    Err(format!("{what}, with scratch {scratch:?}, of {}", call()))
 }
 
 /// Buffers exactly long enough for a text, one byte less, empty and longer.

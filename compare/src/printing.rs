@@ -5,8 +5,9 @@ use crate::library;
 use crate::made_books::{chain, full, good_books};
 use crate::made_terms::{borders, nests};
 use crate::print_call::{compare_last, compare_terms, Print, FLAGS, INDENTS, ONE_LINE, TAGS};
-use crate::printed::{compare, left, told, LONGER, LONGEST, ON_A_BOOK, SHORT_ROOMS};
-use crate::random_inputs::{any_book, any_number, any_term, good_book, scratch_length};
+use crate::printed::{compare, left, told, Left, LONGER, LONGEST, ON_A_BOOK, SHORT_ROOMS};
+use crate::random_inputs::{any_book, any_number, any_term, good_book};
+use crate::scratch_bytes::{random_scratch, LEAST};
 use crate::shapes::{visit, SHAPES};
 use crate::strict_prints::Prints;
 use crate::tally::{Met, Tally};
@@ -27,24 +28,23 @@ const REFUSED_CALLS: usize = 40_000;
 /// Operator codes whose low bytes are those of good ones, and the last.
 const FAR_CODES: [u32; 4] = [1 << 8 | 1, 1 << 16 | 2, 1 << 31 | 3, u32::MAX];
 
-/// A call of trace but for its buffers.
-fn compare_trace(
+/// A call of trace. Gives what the library left.
+pub fn compare_trace(
     book: &[u8],
     node: u32,
     room: usize,
-    scratch: usize,
+    scratch: &[u8],
     met: &mut Met,
-) -> Result<(), String> {
+) -> Result<Left, String> {
     let theirs = left(room, scratch, |scratch, text| {
         told(leskofar_reference::trace(book, scratch, node, text))
     });
     let ours = left(room, scratch, |scratch, text| {
         library::trace(book, scratch, node, text)
     });
-    compare(met, theirs, ours, || {
-        format!("trace of node {node}, buffer {room}, scratch {scratch}, of {book:?}")
+    compare(met, theirs, ours, scratch, || {
+        format!("trace of node {node}, buffer {room}, {book:?}")
     })
-    .map(|_| ())
 }
 
 /// Fails if the strict reader read nothing.
@@ -78,7 +78,7 @@ fn print_groups(tally: &mut Tally) {
                     indent: 1,
                 };
                 for room in 0..=call.length(&program) as usize + LONGER {
-                    call.compare(room, SCRATCH_SIZE, &mut met)?;
+                    call.compare(room, &LEAST, &mut met)?;
                 }
             }
         }
@@ -151,7 +151,7 @@ fn print_groups(tally: &mut Tally) {
                 indent: random.pick(&INDENTS),
             };
             let room = random.pick(&SHORT_ROOMS);
-            call.compare(room, scratch_length(&mut random), &mut met)?;
+            call.compare(room, &random_scratch(&mut random), &mut met)?;
         }
         met.all_of(&ON_A_BOOK)
     });
@@ -185,7 +185,7 @@ fn trace_groups(tally: &mut Tally) {
                 let length = leskofar_reference::trace(book, &mut scratch, node, &mut whole);
                 let length = length.unwrap_or(0);
                 for room in [0, 1, length.saturating_sub(1), length, length + LONGER] {
-                    compare_trace(book, node, room, SCRATCH_SIZE, &mut met)?;
+                    compare_trace(book, node, room, &LEAST, &mut met)?;
                 }
             }
         }
@@ -200,8 +200,8 @@ fn trace_groups(tally: &mut Tally) {
             let nodes = check(&book).map_or(0, |program| program.nodes().len());
             let node = any_number(&mut random, nodes);
             let room = random.pick(&SHORT_ROOMS) + random.below(LONGER);
-            let scratch = scratch_length(&mut random);
-            compare_trace(&book, node, room, scratch, &mut met)?;
+            let scratch = random_scratch(&mut random);
+            compare_trace(&book, node, room, &scratch, &mut met)?;
         }
         met.all_of(&ON_A_BOOK)
     });
@@ -214,11 +214,11 @@ fn operator_groups(tally: &mut Tally) {
         let longest = NAMES.iter().map(|name| name.len()).max().unwrap_or(0);
         for code in codes {
             for room in 0..=longest + 1 {
-                let theirs = left(room, 0, |_, text| {
+                let theirs = left(room, &[], |_, text| {
                     told(leskofar_reference::operator(u64::from(code), text))
                 });
-                let ours = left(room, 0, |_, text| library::operator(code, text));
-                compare(&mut met, theirs, ours, || {
+                let ours = left(room, &[], |_, text| library::operator(code, text));
+                compare(&mut met, theirs, ours, &[], || {
                     format!("operator {code}, buffer {room}")
                 })?;
             }

@@ -1,7 +1,5 @@
-//! Random books, buffers and numbers for calls that print.
+//! Random books and numbers for calls that print.
 
-use crate::printed::LONGER;
-use leskofar_reference::book_test::SCRATCH_SIZE;
 use leskofar_reference::damage::damaged;
 use leskofar_reference::random::{Random, HARDLY_EVER, OFTEN, RARELY};
 use leskofar_reference::random_books::{random_book, Counts};
@@ -19,15 +17,6 @@ pub fn good_book(random: &mut Random) -> Vec<u8> {
     };
     let counts = Counts::random(random, size);
     random_book(random, counts).book()
-}
-
-/// A scratch that is hardly ever too short.
-pub fn scratch_length(random: &mut Random) -> usize {
-    if random.one_in(HARDLY_EVER) {
-        SCRATCH_SIZE - 1
-    } else {
-        SCRATCH_SIZE + random.below(LONGER)
-    }
 }
 
 /// A book that is damaged at times.

@@ -3,9 +3,9 @@
 use crate::calls::{Call, Given, OK};
 use crate::image_places::fields;
 use crate::lists::on_book;
+use crate::scratch_bytes::LEAST;
 use crate::seen::Seen;
 use crate::tally::{Met, Tally};
-use leskofar_reference::book_test::SCRATCH_SIZE;
 use leskofar_reference::image::{Kind, IMAGE_SIZE};
 use leskofar_reference::maker::{sample, Maker};
 
@@ -48,7 +48,7 @@ pub fn run(tally: &mut Tally) {
             let left = call.compare(&Given {
                 book: &book,
                 image,
-                scratch: SCRATCH_SIZE,
+                scratch: &LEAST,
                 text: ROOM,
                 reason: ROOM,
             })?;

@@ -18,10 +18,11 @@ use crate::made_splits::{
     each_letter_changed, long_parts, several_colons, two_colons, types_called_as_built_in,
     types_of_one_name, SPLIT_LETTERS,
 };
+use crate::scratch_bytes::LEAST;
 use crate::seen::{Seen, RESULTS};
 use crate::tally::{Met, Tally};
 use leskofar_reference::book::Section;
-use leskofar_reference::book_test::{check, FIRST_LETTER, LAST_LETTER, SCRATCH_SIZE};
+use leskofar_reference::book_test::{check, FIRST_LETTER, LAST_LETTER};
 use leskofar_reference::fresh_image;
 use leskofar_reference::image::{Kind, Session};
 use leskofar_reference::maker::Maker;
@@ -149,7 +150,7 @@ fn refused(call: &Call, book: &[u8]) -> Result<u32, String> {
     let left = call.compare(&Given {
         book,
         image: &fresh_image(),
-        scratch: SCRATCH_SIZE,
+        scratch: &LEAST,
         text: LONG_LETTERS,
         reason: 0,
     })?;

@@ -18,7 +18,7 @@ use leskofar_reference::random_books::{random_book, Counts};
 use leskofar_reference::refusal::{SESSION, TOO_LONG};
 use leskofar_reference::session::UNSAT;
 
-const SEED: u64 = 0x7365_7373;
+const SEED: u64 = 0x7365_736E;
 /// Random lists, and the most calls of one.
 const LISTS: usize = 50_000;
 const CALLS: usize = 14;

@@ -3,8 +3,9 @@
 
 use crate::print_call::{Print, FLAGS, ONE_LINE};
 use crate::sane::is_sane;
+use crate::scratch_bytes::LEAST;
 use crate::tally::Met;
-use leskofar_reference::book_test::{check, SCRATCH_SIZE};
+use leskofar_reference::book_test::check;
 use leskofar_reference::commands::LINE_END;
 use leskofar_reference::program::Program;
 use leskofar_reference::smtlib::Reader;
@@ -71,7 +72,7 @@ impl Strict {
                 indent,
             };
             let room = call.length(program) as usize;
-            let left = call.compare(room, SCRATCH_SIZE, &mut Met::default())?;
+            let left = call.compare(room, &LEAST, &mut Met::default())?;
             let asserted = [b"(assert ", left.text(), b")"].concat();
             self.reader
                 .read_term(left.text())

@@ -3,23 +3,17 @@
 
 use crate::image_places::{respelled, spelled};
 use crate::made_books::{chain, each_number_changed, faulty_books, full, too_deep_at};
+use crate::scratch_bytes::{LEAST, LENGTHS};
 use crate::tally::Tally;
 use crate::turn_call::{Given, Turn, Turned, TurnsMet, TURNS};
 use leskofar_reference::book::Section;
-use leskofar_reference::book_test::{MOST_DEPTH, SCRATCH_SIZE};
+use leskofar_reference::book_test::MOST_DEPTH;
 use leskofar_reference::image::{Kind, IMAGE_SIZE, NARROW_SIZE};
 use leskofar_reference::maker::{sample, Maker};
+use leskofar_reference::random::Random;
 use leskofar_reference::refusal::{CONTENTS, DEPTH, SCRATCH_SHORT, SESSION, TOO_DEEP_FOR_NARROW};
 
-/// Scratches around the least one that is taken, and a longer one.
-const SCRATCHES: [usize; 6] = [
-    0,
-    1,
-    SCRATCH_SIZE - 1,
-    SCRATCH_SIZE,
-    SCRATCH_SIZE + 1,
-    SCRATCH_SIZE + 77,
-];
+const SEED: u64 = 0x7475_726E;
 /// Nodes of the sessions on books that are too deep.
 const NODES: [u32; 5] = [0, 1, 64, 65, 400];
 const BOOK_REFUSALS: [u32; 6] = [1, 2, 3, 4, 5, 6];
@@ -35,7 +29,7 @@ fn images(turn: Turn) -> Vec<Vec<u8>> {
 }
 
 /// Both turns of these images into buffers of the right length and of others.
-fn compare_all(book: &[u8], scratch: usize, met: &mut TurnsMet) -> Result<(), String> {
+fn compare_all(book: &[u8], scratch: &[u8], met: &mut TurnsMet) -> Result<(), String> {
     for turn in TURNS {
         let right = turn.written().image_size();
         for image in images(turn) {
@@ -59,7 +53,7 @@ fn order_groups(tally: &mut Tally) {
         // A chain without faults has the nodes that some sessions name.
         let deep = chain(MOST_DEPTH).book();
         for book in faulty_books().iter().chain([&deep]) {
-            for scratch in [0, SCRATCH_SIZE - 1, SCRATCH_SIZE] {
+            for scratch in [&[], &LEAST[1..], &LEAST] {
                 compare_all(book, scratch, &mut met)?;
             }
         }
@@ -69,12 +63,13 @@ fn order_groups(tally: &mut Tally) {
     });
     tally.group("turns, every scratch", || {
         let mut met = TurnsMet::default();
+        let mut random = Random::new(SEED);
         let deep = chain(MOST_DEPTH).book();
         // The least book has the root alone.
         let least = Maker::default().book();
         for book in [&least, &sample().maker.book(), &deep] {
-            for scratch in SCRATCHES {
-                compare_all(book, scratch, &mut met)?;
+            for length in LENGTHS {
+                compare_all(book, &random.bytes(length), &mut met)?;
             }
         }
         met.only(
@@ -159,7 +154,7 @@ fn depth_groups(tally: &mut Tally) {
                     let given = Given {
                         book,
                         image,
-                        scratch: SCRATCH_SIZE,
+                        scratch: &LEAST,
                         room,
                     };
                     let turned = turn.compare(&given, &mut met)?;

@@ -3,11 +3,11 @@
 //! behind them, and that book and image received stay as they are.
 
 use crate::buffers::Fenced;
+use crate::scratch_bytes::{are_left, LEAST};
 use crate::tally::Met;
 use crate::turns_library as library;
-use leskofar_reference::book_test::SCRATCH_SIZE;
 use leskofar_reference::image::Kind;
-use leskofar_reference::refusal::{SCRATCH_SHORT, SESSION, TOO_DEEP_FOR_NARROW};
+use leskofar_reference::refusal::{SESSION, TOO_DEEP_FOR_NARROW};
 use leskofar_reference::turns::{self as reference, NARROW_DEPTH};
 use std::hint::black_box;
 
@@ -19,13 +19,13 @@ pub enum Turn {
 
 pub const TURNS: [Turn; 2] = [Turn::Widen, Turn::Narrow];
 
-/// What a turn is given: its book, the image received, and the lengths of the
-/// scratch and of the other image's buffer.
+/// What a turn is given: its book, the image received, what the scratch holds,
+/// and the length of the other image's buffer.
 #[derive(Clone, Copy, Debug)]
 pub struct Given<'b> {
     pub book: &'b [u8],
     pub image: &'b [u8],
-    pub scratch: usize,
+    pub scratch: &'b [u8],
     pub room: usize,
 }
 
@@ -131,7 +131,7 @@ impl Turn {
             format!("{}, expected {}", ours.answer, theirs.answer)
         } else if ours.image != theirs.image {
             format!("another image after {}", ours.answer)
-        } else if ours.scratch != scratch_after(given.scratch, ours.answer) {
+        } else if !are_left([&ours.scratch, &theirs.scratch], given.scratch, ours.answer) {
             format!("another scratch after {}", ours.answer)
         } else if !stayed {
             format!("another book or image received after {}", ours.answer)
@@ -154,7 +154,7 @@ impl Turn {
         let given = Given {
             book,
             image,
-            scratch: SCRATCH_SIZE,
+            scratch: &LEAST,
             room: self.written().image_size(),
         };
         self.compare(&given, met)
@@ -202,20 +202,12 @@ pub fn expect_both(
 }
 
 fn left(given: &Given, turn: impl FnOnce(&mut [u8], &mut [u8]) -> u32) -> Left {
-    let [mut scratch, mut image] = [given.scratch, given.room].map(Fenced::new);
+    let mut scratch = Fenced::holding(given.scratch);
+    let mut image = Fenced::new(given.room);
     let answer = turn(scratch.room(), image.room());
     Left {
         answer,
         image,
         scratch,
     }
-}
-
-/// Zero whole, or untouched under 1.
-fn scratch_after(length: usize, answer: u32) -> Fenced {
-    let mut scratch = Fenced::new(length);
-    if answer != SCRATCH_SHORT {
-        scratch.room().fill(0);
-    }
-    scratch
 }

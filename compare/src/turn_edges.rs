@@ -5,11 +5,12 @@ use crate::calls::{Call, Given, OK};
 use crate::image_places::{level, put_level, spelled};
 use crate::lists::on_book;
 use crate::made_turns::{declaring, declaring_all, Chain};
+use crate::scratch_bytes::LEAST;
 use crate::seen::Seen;
 use crate::tally::{Met, Tally};
 use crate::turn_call::{expect_both, Turn, Turned, TurnsMet};
 use leskofar_reference::book::Section;
-use leskofar_reference::book_test::{MOST_DEPTH, SCRATCH_SIZE};
+use leskofar_reference::book_test::MOST_DEPTH;
 use leskofar_reference::image::{Kind, Owed};
 use leskofar_reference::refusal::{SESSION, TOO_DEEP_FOR_NARROW};
 use leskofar_reference::turns::NARROW_DEPTH;
@@ -145,7 +146,7 @@ fn compare_calls(
         let given = Given {
             book,
             image,
-            scratch: SCRATCH_SIZE,
+            scratch: &LEAST,
             text: ROOM,
             reason: ROOM,
         };

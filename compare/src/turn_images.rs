@@ -5,11 +5,12 @@ use crate::calls::{Call, Given as CallGiven, OK};
 use crate::damaged_images::{foreign, manners};
 use crate::image_places::{fields, respelled, spelled, LEVELS_AT};
 use crate::made_turns::{declaring_all, Chain};
+use crate::scratch_bytes::LEAST;
 use crate::session_images::sample_images;
 use crate::tally::{Met, Tally};
 use crate::turn_call::{Given, Turn, TurnsMet, TURNS};
 use crate::turn_edges::images;
-use leskofar_reference::book_test::{MOST_DEPTH, SCRATCH_SIZE};
+use leskofar_reference::book_test::MOST_DEPTH;
 use leskofar_reference::image::{Kind, Owed, IMAGE_SIZE, NARROW_SIZE};
 use leskofar_reference::maker::sample;
 use leskofar_reference::random::Random;
@@ -88,7 +89,7 @@ fn length_groups(tally: &mut Tally) {
                     &Given {
                         book,
                         image: &image,
-                        scratch: SCRATCH_SIZE,
+                        scratch: &LEAST,
                         room,
                     },
                     &mut met,
@@ -112,7 +113,7 @@ fn length_groups(tally: &mut Tally) {
                 let given = Given {
                     book,
                     image: &image,
-                    scratch: SCRATCH_SIZE,
+                    scratch: &LEAST,
                     room,
                 };
                 let turned = turn.compare(&given, &mut met)?;
@@ -163,7 +164,7 @@ fn damage(
             Call::reply(OK, b"sat").compare(&CallGiven {
                 book,
                 image,
-                scratch: SCRATCH_SIZE,
+                scratch: &LEAST,
                 text: IMAGE_SIZE,
                 reason: 0,
             })?;

@@ -9,12 +9,12 @@ use crate::damaged_images::{foreign, manners};
 use crate::image_places::{level, respelled, PLACES};
 use crate::lists::{on_book, List};
 use crate::made_growths::trace_point;
+use crate::scratch_bytes::{random_scratch, LENGTHS};
 use crate::seen::{Seen, RESULTS};
 use crate::session_books::chain_book;
 use crate::tally::{Met, Tally};
 use crate::turn_call::{expect_both, Given, TurnsMet, TURNS};
 use leskofar_reference::book::INT;
-use leskofar_reference::book_test::SCRATCH_SIZE;
 use leskofar_reference::damage::damaged;
 use leskofar_reference::fresh_image;
 use leskofar_reference::image::{Kind, Owed};
@@ -38,8 +38,6 @@ const LARGE: usize = 60;
 /// The most new constants and literals, and nodes beside a chain.
 const NEW: usize = 12;
 const ASIDE: usize = 6;
-/// Scratches that are not the least one.
-const SCRATCHES: [usize; 4] = [0, SCRATCH_SIZE - 1, SCRATCH_SIZE + 1, SCRATCH_SIZE + 77];
 /// The largest level that a byte holds.
 const BYTE: usize = u8::MAX as usize;
 /// What both turns answer, and what only the turn back does.
@@ -183,9 +181,10 @@ impl Lists {
         if random.one_in(OFTEN) {
             book = damaged(random, list.maker());
         }
-        let mut scratch = SCRATCH_SIZE;
+        let mut scratch = random_scratch(random);
         if random.one_in(AT_TIMES) {
-            scratch = random.pick(&SCRATCHES);
+            let length = random.pick(&LENGTHS);
+            scratch = random.bytes(length);
         }
         let mut room = turn.written().image_size();
         if random.one_in(RARELY) {
@@ -194,7 +193,7 @@ impl Lists {
         let given = Given {
             book: &book,
             image: &image,
-            scratch,
+            scratch: &scratch,
             room,
         };
         turn.compare(&given, &mut self.turns)?;

@@ -4,7 +4,7 @@
 
 use crate::made_books::{faulty_books, full, good_books, over_the_limits};
 use crate::made_growths::each_call;
-use crate::random_inputs::scratch_length;
+use crate::scratch_bytes::{random_scratch, LEAST, LENGTHS};
 use crate::tally::{Met, Tally};
 use crate::writer_books::{deepest, growing_book};
 use crate::writer_call::{Given, Grown, Growth, LARGEST_BOOK};
@@ -15,7 +15,6 @@ use crate::writer_met::{End, Ends};
 use crate::writer_names;
 use crate::writer_random::Stock;
 use crate::writer_terms;
-use leskofar_reference::book_test::SCRATCH_SIZE;
 use leskofar_reference::damage::damaged;
 use leskofar_reference::filled_books::tiny;
 use leskofar_reference::maker::Maker;
@@ -29,8 +28,6 @@ const GROWTHS_OF_A_BOOK: usize = 8;
 /// Growths of each made book.
 const GROWTHS_OF_A_MADE_BOOK: usize = 80;
 const FULL_BOOKS: usize = 100;
-/// Scratches around the least one that is taken, and a longer one.
-const SCRATCHES: [usize; 5] = [0, 1, SCRATCH_SIZE - 1, SCRATCH_SIZE, SCRATCH_SIZE + 77];
 /// How much longer than the new book a buffer is.
 const LONGER: [usize; 3] = [1, 9, 4096];
 
@@ -50,10 +47,9 @@ pub fn compare_in_every_room(
 ) -> Result<Grown, String> {
     let length = growth.length(book);
     let mut in_room = |room: usize| {
-        let scratch = SCRATCH_SIZE;
         let given = Given {
             book,
-            scratch,
+            scratch: &LEAST,
             room,
         };
         compare(growth, &given, ends)
@@ -86,7 +82,7 @@ fn compare_at_random(
 ) -> Result<(), String> {
     let given = Given {
         book,
-        scratch: scratch_length(random),
+        scratch: &random_scratch(random),
         room: room(random, growth.length(book)),
     };
     compare(growth, &given, ends).map(|_| ())
@@ -110,14 +106,15 @@ fn compare_some(
 fn made_groups(tally: &mut Tally) {
     tally.group("writer, each call, every buffer and scratch", || {
         let mut ends = Met::default();
+        let mut random = Random::new(SEED);
         let book = &tiny().book();
         for growth in each_call(0, b"t") {
             compare_in_every_room(&growth, book, &mut ends)?;
-            for scratch in SCRATCHES {
+            for length in LENGTHS {
                 for room in [0, LARGEST_BOOK] {
                     let given = Given {
                         book,
-                        scratch,
+                        scratch: &random.bytes(length),
                         room,
                     };
                     compare(&growth, &given, &mut ends)?;

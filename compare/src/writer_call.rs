@@ -4,6 +4,7 @@
 
 use crate::buffers::Fenced;
 use crate::library::book_test;
+use crate::scratch_bytes::are_left;
 use crate::writer_library::{self as library, Appended, Buffers};
 use leskofar_reference::book::{Book, Section, TERM_FIELDS};
 use leskofar_reference::book_test::SCRATCH_SIZE;
@@ -43,15 +44,15 @@ impl Trace {
     }
 }
 
-/// What a call is given: its book, and the lengths of its buffers.
+/// What a call is given: its book, what the scratch holds, and the length of
+/// the new book's buffer.
 pub struct Given<'b> {
     pub book: &'b [u8],
-    pub scratch: usize,
+    pub scratch: &'b [u8],
     pub room: usize,
 }
 
 /// What a call leaves.
-#[derive(PartialEq)]
 pub struct Grown {
     pub answer: Appended,
     new_book: Fenced,
@@ -145,7 +146,11 @@ impl Growth {
             format!("{:?}, expected {:?}", ours.answer, theirs.answer)
         } else if ours.new_book != theirs.new_book {
             format!("another new book after {:?}", ours.answer)
-        } else if ours.scratch != theirs.scratch {
+        } else if !are_left(
+            [&ours.scratch, &theirs.scratch],
+            given.scratch,
+            ours.answer.refusal,
+        ) {
             format!("another scratch after {:?}", ours.answer)
         } else if !stayed {
             format!(
@@ -158,7 +163,7 @@ impl Growth {
             return Ok(ours);
         };
         Err(format!(
-            "{what}, of {self:?} with scratch {}, room {}, book {:?}",
+            "{what}, of {self:?} with scratch {:?}, room {}, book {:?}",
             given.scratch, given.room, given.book
         ))
     }
@@ -172,7 +177,8 @@ fn slices(lists: &[Vec<u8>; 2]) -> [&[u8]; 2] {
 }
 
 fn grown(given: &Given, book: &[u8], call: impl FnOnce(Buffers) -> Appended) -> Grown {
-    let [mut scratch, mut new_book] = [given.scratch, given.room].map(Fenced::new);
+    let mut scratch = Fenced::holding(given.scratch);
+    let mut new_book = Fenced::new(given.room);
     let answer = call(Buffers {
         book,
         scratch: scratch.room(),

@@ -4,6 +4,7 @@
 use crate::calls::{Call, Given, Measure};
 use crate::lists::{room as text_room, List};
 use crate::random_calls::random_call;
+use crate::scratch_bytes::LEAST;
 use crate::seen::Seen;
 use crate::strict::is_readable;
 use crate::tally::Met;
@@ -11,7 +12,6 @@ use crate::writer::{compare, room};
 use crate::writer_call::{Given as GrowthGiven, Growth};
 use crate::writer_met::Ends;
 use crate::writer_random::Stock;
-use leskofar_reference::book_test::SCRATCH_SIZE;
 use leskofar_reference::image::Owed;
 use leskofar_reference::maker::Maker;
 use leskofar_reference::random::{Random, AT_TIMES, OFTEN};
@@ -60,7 +60,7 @@ impl Events {
     ) -> Result<Option<u32>, String> {
         let given = GrowthGiven {
             book: list.book(),
-            scratch: SCRATCH_SIZE,
+            scratch: &LEAST,
             room,
         };
         let grown = compare(growth, &given, &mut self.ends)?;
@@ -97,7 +97,7 @@ impl Events {
             call.compare(&Given {
                 book,
                 image: list.image(),
-                scratch: SCRATCH_SIZE,
+                scratch: &LEAST,
                 text,
                 reason,
             })

@@ -48,7 +48,7 @@ const REFUSALS: [(bool, &[u32]); CALL_NAMES.len()] = [
 ];
 const RECEIVED: [u32; 5] = [2, 3, 4, 5, 6];
 
-fn name(growth: &Growth) -> &'static str {
+pub fn call_name(growth: &Growth) -> &'static str {
     let at = match growth {
         Growth::Name(_) => 0,
         Growth::Constant(..) => 1,
@@ -71,7 +71,7 @@ impl End {
             3..=6 => Of::Grown(refusal),
             _ => Of::Call(refusal),
         };
-        let call = name(growth);
+        let call = call_name(growth);
         End { call, of }
     }
 

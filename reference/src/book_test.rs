@@ -8,7 +8,7 @@ use crate::program::Program;
 use crate::refusal::{refuse_if, CONTENTS, COUNT, DEPTH, FIELD, FOREST, SCRATCH_SHORT};
 
 /// The least scratch that a call takes.
-pub const SCRATCH_SIZE: usize = 1_024;
+pub const SCRATCH_SIZE: usize = 128;
 /// The depth of the deepest node that passes.
 pub const MOST_DEPTH: usize = 400;
 /// The letters that pass.

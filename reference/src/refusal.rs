@@ -32,7 +32,7 @@ pub fn refuse_if(fault: bool, number: u32) -> Result<(), u32> {
 /// What a number means, after the documents' lists.
 pub fn meaning(number: u32) -> &'static str {
     match number {
-        SCRATCH_SHORT => "scratch shorter than 1,024 bytes",
+        SCRATCH_SHORT => "scratch shorter than 128 bytes",
         CONTENTS => "book under 80 bytes, or contents not as laid out",
         COUNT => "a count over its limit",
         FIELD => "a field or reached list entry out of range, an unused field not 0, a bad letter",

@@ -7,6 +7,7 @@ pub mod Digits
 pub mod Laws
 pub mod Places
 pub mod Refusals
+pub mod Bits
 mod Stepping
 mod Writing
 mod Signs

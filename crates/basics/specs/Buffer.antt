@@ -20,7 +20,7 @@ bufferAfter (accepted a) textOf buffer = overlay (textOf a) buffer
 
 -- the least scratch that a call takes
 abbrev pub scratchLeast : ℕ
-scratchLeast = 1024
+scratchLeast = 128
 
 -- all zero after every call that takes it, except under refusal 1, where it isn't touched
 unfoldable pub scratchAfter : List ℕ → List ℕ

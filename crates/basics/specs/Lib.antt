@@ -6,3 +6,4 @@ pub mod Outcome
 pub mod Buffer
 pub mod Write
 pub mod Bytes
+pub mod Bits

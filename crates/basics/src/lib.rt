@@ -1,10 +1,14 @@
 // Basics.dfy: text that is written into a buffer, and decimal numbers; and texts that are compared.
+mod bit;
 mod decimal;
 mod letters;
 mod place;
 mod word;
 mod write;
 
+pub use bit::BITS;
+pub use bit::has_bit;
+pub use bit::with_bit;
 pub use decimal::SIGN;
 pub use decimal::put_i64;
 pub use decimal::put_int;
@@ -21,4 +25,4 @@ pub use write::spaces;
 pub use write::sum;
 
 // The least scratch that a call takes.
-pub const SCRATCH_LEAST: usize = 1024;
+pub const SCRATCH_LEAST: usize = 128;

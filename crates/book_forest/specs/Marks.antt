@@ -1,22 +1,23 @@
 -- How the test goes: each term that is referred to gets a mark in the scratch.
-use Prim.Native.Nat.{ℕ}
+use Prim.Native.Nat.{ℕ, _*_}
 use mathlib.Core.Path.{_≡_}
 use mathlib.Core.List.{List, [], _∷_}
 use mathlib.Core.Bool.{Bool, true, not, _&&_}
-use lib.Dec.{eqb, ltb}
-use lib.ListN.{length, getD, set}
+use lib.Dec.{ltb}
+use lib.ListN.{length}
+use Rattle.basics.specs.Bits.{hasNumber, withNumber}
 use Rattle.book_forest.specs.Forest.{Reference}
 
--- A mark is a byte that is not 0. Only set_mark, is_marked and clear, and the laws of proofs/Stored.antt, open these three.
+-- A mark is a bit. Only set_mark, is_marked and clear, and the laws of proofs/Stored.antt, open these three.
 unfoldable pub isMarked : List ℕ → ℕ → Bool
-isMarked m t = not (eqb (getD m t 0) 0)
+isMarked m t = hasNumber m t
 
 unfoldable pub setMark : List ℕ → ℕ → List ℕ
-setMark m t = set m t 1
+setMark m t = withNumber m t
 
 -- the terms below this have a mark of their own
 unfoldable pub room : List ℕ → ℕ
-room m = length m
+room m = 8 * length m
 
 -- the references can be marked one after the other: each is to a term below its bound and with no mark yet
 unfoldable pub canMark : List ℕ → List Reference → Bool

@@ -1,5 +1,6 @@
 // Refusal 5: a child is smaller than its parent, and no term is referred to twice in the whole book.
 ghost use mathlib.Core.Path.{_≡_};
+ghost use mathlib.Core.Bool.{false};
 ghost use mathlib.Core.List.{[], _∷_};
 ghost use Prim.Native.Nat.{_+_, _<_, _≤_};
 ghost use lib.ListN.{length, replicate};
@@ -10,25 +11,27 @@ ghost use Rattle.book.specs.Laid.{Laid, AllLaid};
 ghost use Rattle.book_forest.specs.Forest.{reference, rangeReferences, listedReferences, kindReferences, termReferences, axiomReferences, contextReferences, isForest};
 ghost use Rattle.book_forest.specs.Followed.{ListsPatterns, Followed};
 ghost use Rattle.book_forest.specs.Marks.{isMarked, setMark, room, Marked};
+use basics::BITS;
+use basics::has_bit;
+use basics::with_bit;
 use book::count;
 use book::field;
 use book::format::*;
 
-// A mark is a byte of the scratch. Only the next three functions know that.
-const MARK: u8 = 1;
-
+// A mark is a bit of the scratch. Only the next three functions know that.
 fn set_mark(scratch: &mut [u8], t: usize)
-    requires { ⌜ t < room (now scratch) ⌝ }
+    requires { ⌜ (t < room (now scratch)) × (isMarked (now scratch) t ≡ false) ⌝ }
     ensures { λ _. ⌜ now (scratch .exit) ≡ setMark (now (scratch .entry)) t ⌝ }
 {
-    scratch[t] = MARK;
+    let at = t / BITS;
+    scratch[at] = with_bit(scratch[at], t % BITS);
 }
 
 fn is_marked(scratch: &[u8], t: usize) -> bool
     requires { ⌜ t < room (now scratch) ⌝ }
     ensures { λ r. ⌜ r ≡ isMarked (now (scratch .entry)) t ⌝ }
 {
-    scratch[t] != 0
+    has_bit(scratch[t / BITS], t % BITS)
 }
 
 // Clears every mark, and whatever else the scratch holds.

@@ -44,7 +44,7 @@ module _ (b : Book) where
   refused-1 n l = rw (lt-ltb n scratchLeast l)
 
   module _ (n : ℕ) (long : scratchLeast ≤ n) where
-    ready-long : bookTest b ≡ ready n b
+    pub ready-long : bookTest b ≡ ready n b
     unfolding ready refuse _>>_
     ready-long = rw (le-ltb n scratchLeast long)
 

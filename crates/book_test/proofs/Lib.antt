@@ -7,6 +7,7 @@ pub mod Depth
 pub mod Promise
 pub mod Given
 pub mod Answers
+pub mod AnyScratch
 pub mod Entries
 pub mod TermLaw
 pub mod TermKinds

@@ -1,3 +1,4 @@
 pub mod BookTest
+pub mod Scratch
 pub mod Promise
 pub mod Kept

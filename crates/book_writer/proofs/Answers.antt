@@ -8,7 +8,7 @@ use lib.ListN.{length, take}
 use lib.Seq.{length-take-le}
 use borrow.Author.Tests.{lt-ltb, le-ltb}
 use Rattle.basics.specs.Outcome.{Outcome, refused, accepted, refuse, _>>_, mapOutcome}
-use Rattle.basics.specs.Buffer.{scratchLeast, bufferAfter}
+use Rattle.basics.specs.Buffer.{bufferAfter}
 use Rattle.basics.specs.Write.{Wrote, overlayAt, WroteAt}
 use Rattle.basics.proofs.Laws.{take-overlay}
 use Rattle.basics.proofs.Places.{at-length}
@@ -16,9 +16,10 @@ use Rattle.book.specs.Refusal.{number}
 use Rattle.book.specs.declared.Refusal.{Refusal}
 use Rattle.book.specs.declared.Refusal.the-variants.{CountOverLimit, FieldOutOfRange, BufferTooShort}
 use Rattle.book.specs.Book.{Book}
-use Rattle.book_test.specs.BookTest.{bookTest, ready, testedValue, bookTestCall}
+use Rattle.book_test.specs.BookTest.{bookTest, testedValue, bookTestCall}
 use Rattle.book_test.specs.declared.Tested.{Tested}
 use Rattle.book_test.specs.declared.Tested.the-variants.{Good, Refused}
+use Rattle.book_test.proofs.Answers.{ready-long}
 use Rattle.book_layout.specs.Layout.{bookMost}
 use Rattle.book_growth.specs.Growth.{Addition, grown, growsWithin}
 use Rattle.book_writer.specs.Writing.{Grown, numbers, bookOf, appendedValue}
@@ -56,8 +57,8 @@ refused-as e = rw e
 -- ---- the test of the new book, with the scratch that the first test left
 module _ (c : Book) (s : List ℕ) (S : Spare s) (d : Tested) {s1 : List ℕ} (tested : (testedValue d ≡ bookTestCall c s .answer) × (s1 ≡ bookTestCall c s .scratch)) where
   tested-as : testedValue d ≡ bookTest c
-  unfolding bookTestCall ready refuse _>>_
-  tested-as = tested .0 ∙ rw (le-ltb (length s) scratchLeast (S .long))
+  unfolding bookTestCall
+  tested-as = tested .0 ∙ sym (ready-long c (length s) (S .long))
 
   clean-again : s1 ≡ s
   unfolding bookTestCall

@@ -19,6 +19,7 @@ use Rattle.book_test.specs.BookTest.{ready, testedValue, bookTestCall}
 use Rattle.book_test.specs.declared.Tested.{Tested}
 use Rattle.book_test.specs.declared.Tested.the-variants.{Good, Refused}
 use Rattle.book_test.proofs.Outcomes.{ready-passed}
+use Rattle.book_test.proofs.Answers.{zeroed}
 use Rattle.book_test.proofs.Promise.{promise}
 use Rattle.book_writer.specs.Growths.{Growth, extend, outsideAt, outside}
 use Rattle.book_writer.specs.Writing.{grow, lent, grownLeft, outcomeOf, growCall, appendedValue, Returned}
@@ -28,15 +29,10 @@ use Rattle.book_writer.specs.declared.Appended.the-variants as answer
 use Rattle.book_writer.proofs.Answers.{refused-with, refused-as}
 
 -- ---- the scratch that a test leaves
-zeros : (s : List ℕ) → scratchLeast ≤ length s → scratchAfter s ≡ replicate (length s) 0
-unfolding scratchAfter
-zeros s h = rw (le-ltb (length s) scratchLeast h)
-
 spare : (s : List ℕ) → scratchLeast ≤ length s → Spare (scratchAfter s)
 spare s h =
-    let z = zeros s h in
     let l : length {A = ℕ} (replicate (length s) 0) ≡ length s = length-replicate (length s) 0 in
-    rw z (record { long = omega arith; clean = zeros (replicate (length s) 0) (omega arith) ∙ ap (λ (n : ℕ). replicate n 0) l })
+    rw (← zeroed s h) (record { long = omega arith; clean = sym (zeroed (replicate (length s) 0) (omega arith)) ∙ ap (λ (n : ℕ). replicate n 0) l })
 
 -- ---- the call whole
 by-steps : (scratch : ℕ) (b : Book) (g : Growth) (room : ℕ) → grow scratch b g room ≡ (ready scratch b >> growIn b g room)

@@ -1,11 +1,12 @@
 -- A set of constants, by their numbers: a bit for each.
-use Prim.Native.Nat.{ℕ, _/_, _%_, _<_}
+use Prim.Native.Nat.{ℕ, _/_, _<_}
 use mathlib.Core.Path.{_≡_}
 use mathlib.Core.Bool.{Bool, _||_}
-use mathlib.Core.List.{List, [], _∷_, map}
+use mathlib.Core.List.{List, map}
 use lib.Dec.{eqb}
-use lib.ListN.{length, getD}
+use lib.ListN.{length}
 use Rattle.basics.specs.Lists.{member}
+use Rattle.basics.specs.Bits.{hasNumber}
 use Rattle.book.specs.Book.{Book, constants, entries}
 use Rattle.book.specs.Decode.{constantOf}
 use Rattle.rsolver.specs.REngine.{withConstants}
@@ -14,18 +15,8 @@ use Rattle.rsolver.specs.REngine.{withConstants}
 abbrev pub setSize : ℕ
 setSize = constants .most / 8
 
--- what each bit of a byte counts
-abbrev pub powers : List ℕ
-powers = 1 ∷ 2 ∷ 4 ∷ 8 ∷ 16 ∷ 32 ∷ 64 ∷ 128 ∷ []
-
-abbrev pub power : ℕ → ℕ
-power i = getD powers i 0
-
-unfoldable pub hasBit : ℕ → ℕ → Bool
-hasBit byte i = eqb (byte / power i % 2) 1
-
 unfoldable pub isExcluded : List ℕ → ℕ → Bool
-isExcluded set v = hasBit (getD set (v / 8) 0) (v % 8)
+isExcluded set v = hasNumber set v
 
 -- the set holds the constants of the list
 pub record Excludes (set exclude : List ℕ) : Type 0 where

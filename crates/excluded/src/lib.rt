@@ -1,20 +1,19 @@
 // The constants that a walk leaves out, as a set by value: a bit for each number.
 ghost use mathlib.Core.Path.{_≡_};
-ghost use mathlib.Core.Bool.{false};
 ghost use mathlib.Core.List.{[]};
 ghost use Prim.Native.Nat.{_+_, _<_};
 ghost use lib.ListN.{length};
 ghost use Rattle.book.specs.Book.{constants, size};
 ghost use Rattle.book_test.specs.Promise.{Promise, Range};
-ghost use Rattle.excluded.specs.Excluded.{setSize, power, hasBit, isExcluded, Excludes, Joined, Ranged};
+ghost use Rattle.excluded.specs.Excluded.{setSize, isExcluded, Excludes, Joined, Ranged};
+use basics::BITS;
+use basics::has_bit;
+use basics::with_bit;
 use book::field;
 use book::format::*;
 
 // The set's bytes, of eight bits each.
-pub const SIZE: usize = CONSTANTS_MOST / 8;
-
-// What each bit of a byte counts.
-const POWERS: [u8; 8] = [1, 2, 4, 8, 16, 32, 64, 128];
+pub const SIZE: usize = CONSTANTS_MOST / BITS;
 
 // Nothing is excluded.
 pub fn nothing() -> [u8; SIZE]
@@ -28,15 +27,7 @@ pub fn has(set: &[u8; SIZE], v: usize) -> bool
     requires { ⌜ (length (now set) ≡ setSize) × (v < constants .most) ⌝ }
     ensures { λ r. ⌜ r ≡ isExcluded (now (set .entry)) v ⌝ }
 {
-    set[v / 8] / POWERS[v % 8] % 2 == 1
-}
-
-// A byte with bit i, which it hasn't.
-fn with_bit(byte: u8, i: usize) -> u8
-    requires { ⌜ (i < 8) × (hasBit byte i ≡ false) ⌝ }
-    ensures { λ r. ⌜ r ≡ byte + power i ⌝ }
-{
-    byte + POWERS[i]
+    has_bit(set[v / BITS], v % BITS)
 }
 
 // The set with constant v.
@@ -48,7 +39,7 @@ pub fn with(set: &[u8; SIZE], v: usize) -> [u8; SIZE]
     if has(set, v) {
         return all;
     }
-    all[v / 8] = with_bit(all[v / 8], v % 8);
+    all[v / BITS] = with_bit(all[v / BITS], v % BITS);
     all
 }
 

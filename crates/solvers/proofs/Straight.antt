@@ -1,18 +1,18 @@
 -- A fresh session, given scratch and buffer enough, is sent to a node or asked a goal that it can reach: the call is accepted.
 use Prim.Native.Nat.{ℕ, _≤_, _<_}
 use native.Mathlib.Omega.{arith}
-use mathlib.Core.Path.{_≡_, refl, ap, _∙_}
+use mathlib.Core.Path.{_≡_, refl, sym, ap, _∙_}
 use mathlib.Core.List.{[]}
 use mathlib.Core.Option.{none}
 use mathlib.Core.Bool.{Bool, true, false, not, _||_}
 use lib.Dec.{leb, ltb}
 use lib.ListN.{length}
 use borrow.Author.Tests.{le-ltb, lt-leb}
-use Rattle.basics.specs.Buffer.{scratchLeast}
 use Rattle.basics.specs.Outcome.{Outcome, accepted, refuse, _>>_}
 use Rattle.book.specs.Book.{Book, terms, contexts, size}
 use Rattle.book.specs.Decode.{term, program}
 use Rattle.book_test.specs.BookTest.{bookTest, ready}
+use Rattle.book_test.proofs.Answers.{ready-long}
 use Rattle.smt_engines.specs.Command.{script}
 use Rattle.rsolver.specs.LevelState.{LevelState}
 use Rattle.solvers.specs.declared.Owed.the-variants.{Nothing}
@@ -39,8 +39,7 @@ roomFor b c = length (script (said b rootPresent c))
 
 module _ (b : Book) (ok : bookTest b ≡ accepted tt) where
   pub ready-ok : {room : ℕ} {h : Host} → Enough room h → ready (length (h .scratch)) b ≡ accepted tt
-  unfolding ready
-  ready-ok {h = h} k = pass 1 (ltb (length (h .scratch)) scratchLeast) (bookTest b) (le-ltb (length (h .scratch)) scratchLeast (k .scratch)) ∙ ok
+  ready-ok {h = h} k = sym (ready-long b (length (h .scratch)) (k .scratch)) ∙ ok
 
   pub valid-start : isSession (program b) (sessionAt b rootPresent) ≡ true
   valid-start = is-session b (G b ok) (T b ok) rootPresent (fits-start b ok)

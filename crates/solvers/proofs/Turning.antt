@@ -1,6 +1,6 @@
 -- A session turned wide and back, or back and wide again, is the one that it began with.
 use Prim.Native.Nat.{ℕ, _≤_}
-use mathlib.Core.Path.{_≡_, refl, sym}
+use mathlib.Core.Path.{_≡_, refl, sym, _∙_}
 use mathlib.Core.Bool.{Bool, true, false, not}
 use lib.Dec.{leb, ltb}
 use borrow.Author.Tests.{leb-true, leb-false, le-leb, ltb-false, le-ltb, lt-ltb, not-false}
@@ -13,6 +13,7 @@ use Rattle.book.specs.Program.{depth}
 use Rattle.book.specs.Decode.{program}
 use Rattle.book_test.specs.BookTest.{ready}
 use Rattle.book_test.proofs.Outcomes.{passed, both, same-answer, ready-passed}
+use Rattle.book_test.proofs.Answers.{ready-long}
 use Rattle.solvers.specs.declared.Session.{Session}
 use Rattle.solvers.specs.declared.NarrowSession.{NarrowSession}
 use Rattle.solvers.specs.Calls.{isSession}
@@ -78,8 +79,7 @@ module _ (b : Book) (scratch : ℕ) where
 
 -- another scratch that is long enough changes nothing
 ready-again : (b : Book) (n m : ℕ) → scratchLeast ≤ m → ready n b ≡ accepted tt → ready m b ≡ accepted tt
-unfolding ready refuse _>>_
-ready-again b n m h e = rw (le-ltb m scratchLeast h) (ready-passed n b e .1)
+ready-again b n m h e = sym (ready-long b m h) ∙ ready-passed n b e .1
 
 pub turnable-again : (b : Book) (n m : ℕ) → scratchLeast ≤ m → (w : Session) → Turnable b n w → Turnable b m w
 turnable-again b n m h w t = record { tested = ready-again b n m h (t .tested); session = t .session; shallow = t .shallow }

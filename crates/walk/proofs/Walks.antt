@@ -23,7 +23,7 @@ use Rattle.levels.specs.Types.{typeStep, constantTypesStep, functionStep}
 use Rattle.levels.proofs.Steps.{did-skip, did-then, did-as, did-length}
 use Rattle.literals.specs.Literals.{literalStep}
 use Rattle.excluded.specs.Excluded.{setSize, Joined, Ranged}
-use Rattle.excluded.proofs.Bits.{excludes-with, listed, excludes-listed}
+use Rattle.excluded.proofs.Sets.{excludes-with, listed, excludes-listed}
 use Rattle.walk.specs.Walk.{idStep, symbolsStep, termsStep, patternsStep, operatorStep, axiomsStep, Walked, Included}
 use Rattle.walk.proofs.Shapes.{of-boolean, of-integer, of-literal, of-id, of-built-in, of-application, of-if, of-let, of-quantifier, of-terms, of-no-terms, of-patterns, of-no-patterns}
 

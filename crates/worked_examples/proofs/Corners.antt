@@ -129,12 +129,12 @@ limits =
     ∷ (print (printCall [] dirty 17 0 flat (blank 0)), print (hides 0 2))
     -- scratch one byte short is not touched, and a longer one is zero to its end. R 18
     ∷ (
-      print (printCall small (replicate 1023 0x55) 0 0 flat (blank 8)),
-      print (record { answer = refused 1; text = blank 8; scratch = replicate 1023 0x55 }),
+      print (printCall small (replicate 127 0x55) 0 0 flat (blank 8)),
+      print (record { answer = refused 1; text = blank 8; scratch = replicate 127 0x55 }),
     )
     ∷ (
-      print (printCall small (replicate 1025 0x55) 0 0 flat (blank 1)),
-      print (record { answer = accepted 1; text = ascii "0"; scratch = replicate 1025 0 }),
+      print (printCall small (replicate 129 0x55) 0 0 flat (blank 1)),
+      print (record { answer = accepted 1; text = ascii "0"; scratch = replicate 129 0 }),
     )
     -- 80 bytes without records have only the root. R 21: a move's term is no term of the call
     ∷ (test (bookTestCall none dirty), test (record { answer = accepted tt; scratch = clean }))

@@ -71,7 +71,7 @@ refusals =
     ∷ (audit unlettered [] (replicate 65537 0x20), refusedBy 3)
     -- before all that: a bad book, and a short scratch, which stays as it is
     ∷ (audit [] (1 ∷ []) (replicate 65537 0x20), refusedBy 2)
-    ∷ (auditCall [] (replicate 1023 0x55) [] [], record { answer = refused 1; scratch = replicate 1023 0x55 })
+    ∷ (auditCall [] (replicate 127 0x55) [] [], record { answer = refused 1; scratch = replicate 127 0x55 })
     ∷ []
 
 pub refusals-hold : map (λ e. e .0) refusals ≡ map (λ e. e .1) refusals

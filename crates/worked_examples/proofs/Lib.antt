@@ -7,7 +7,9 @@ pub mod Listings
 pub mod Corners
 pub mod Operators
 pub mod Refusals
+pub mod IntegerBooks
 pub mod Chains
+pub mod Marks
 pub mod Depths
 pub mod Lists
 pub mod Growths

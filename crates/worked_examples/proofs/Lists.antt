@@ -55,7 +55,7 @@ mixed =
     ∷ ask 3 18
     ∷ move 3 ∷ ask 3 18 ∷ model (ascii "unsat")  -- 21, 21, 23
     ∷ replyWith (host 15 20) true (ascii "unsat")  -- 10
-    ∷ replyWith (record { scratch = replicate 1023 0; text = blank 200; reason = blank 20 }) true (ascii "unsat")  -- 1
+    ∷ replyWith (record { scratch = replicate 127 0; text = blank 200; reason = blank 20 }) true (ascii "unsat")  -- 1
     ∷ reply (ascii "sat")
     ∷ reply (ascii "unsat") ∷ move 0 ∷ model (ascii "unsat")  -- 22, 21, 8
     ∷ modelWith (host 16 10) (ascii "sat") (some (ascii "(model)"))  -- 10: the reason has 11 bytes

@@ -95,8 +95,8 @@ refusals =
     -- before all that: a bad book, and a short scratch, which stays as it is
     ∷ (test [] (replicate 2052 0xFF), refusedBy 2)
     ∷ (
-      nodesTestCall [] (replicate 1023 0x55) (replicate 2052 0xFF),
-      record { answer = refused 1; scratch = replicate 1023 0x55 },
+      nodesTestCall [] (replicate 127 0x55) (replicate 2052 0xFF),
+      record { answer = refused 1; scratch = replicate 127 0x55 },
     )
     ∷ []
 

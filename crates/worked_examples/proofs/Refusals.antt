@@ -231,10 +231,12 @@ calls =
     (tested none, gives ok)
     ∷ (tested (one contexts 1 1 9), gives (refused 5))
     -- 1 before all others, and the scratch not touched
-    ∷ (bookTestCall [] (replicate 1023 0x55), record { answer = refused 1; scratch = replicate 1023 0x55 })
+    ∷ (bookTestCall [] (replicate 127 0x55), record { answer = refused 1; scratch = replicate 127 0x55 })
     ∷ (bookTestCall none [], record { answer = refused 1; scratch = [] })
-    -- a longer scratch is zero to its end
-    ∷ (bookTestCall [] (replicate 1030 0x55), record { answer = refused 2; scratch = replicate 1030 0 })
+    -- one that is long enough is zero to its end: the least, one byte more, and as much as a byte for each term
+    ∷ (bookTestCall none (replicate 128 0x55), record { answer = ok; scratch = replicate 128 0 })
+    ∷ (bookTestCall [] (replicate 129 0x55), record { answer = refused 2; scratch = replicate 129 0 })
+    ∷ (bookTestCall (one contexts 1 1 9) (replicate 1024 0x55), record { answer = refused 5; scratch = replicate 1024 0 })
     ∷ []
 
 pub calls-hold : map (λ e. e .0) calls ≡ map (λ e. e .1) calls

@@ -121,8 +121,8 @@ strangers =
     )
     -- before all that: short scratch, which stays as it is, and a bad book
     ∷ (
-      called [] (at 4 0 Nothing) (moveTo (record { scratch = replicate 1023 0x55; text = blank 16; reason = [] }) 4),
-      record { answer = refused 1; session = at 4 0 Nothing; text = blank 16; reason = []; scratch = replicate 1023 0x55 },
+      called [] (at 4 0 Nothing) (moveTo (record { scratch = replicate 127 0x55; text = blank 16; reason = [] }) 4),
+      record { answer = refused 1; session = at 4 0 Nothing; text = blank 16; reason = []; scratch = replicate 127 0x55 },
     )
     ∷ (called [] (at 4 0 Nothing) (moveTo (host 16 0) 4), refuses 16 0 (at 4 0 Nothing) 2)
     ∷ []

@@ -60,7 +60,7 @@ turns =
     ∷ (back 1616 (wide 2 3 18 0), refuses 1616 20)
     ∷ (back 1616 (wide 2 3 18 3), refuses 1616 20)
     -- before all that: a short scratch, which stays as it is, and a bad book
-    ∷ (widenedOnImage [] (replicate 1023 0x55) [] (blank 1), record { answer = refused 1; image = blank 1; scratch = replicate 1023 0x55 })
+    ∷ (widenedOnImage [] (replicate 127 0x55) [] (blank 1), record { answer = refused 1; image = blank 1; scratch = replicate 127 0x55 })
     ∷ (narrowedOnImage [] dirty (wide 2 3 0 0) (blank 1616), refuses 1616 2)
     ∷ []
 

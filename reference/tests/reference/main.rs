@@ -22,6 +22,7 @@ mod naive_writer;
 mod negatives;
 mod nodes;
 mod nodes_refusals;
+mod scratch;
 mod script_program;
 mod session_refusals;
 mod stack_reader;

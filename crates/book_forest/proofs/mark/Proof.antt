@@ -21,7 +21,7 @@ returns-2 : tie.Need-returns-2
 returns-2 c = mark-again _ _ _ (c .before .before .before .if1 .left) (sym (c .before .is-marked .ensures) ∙ c .if2 .taken)
 
 set-mark-requires : tie.Need-set-mark-requires
-set-mark-requires c κs = search needs
+set-mark-requires c κs = (search needs, sym (c .before .before .is-marked .ensures) ∙ c .before .if2 .left)
 
 same-length-2 : tie.Need-same-length-2
 same-length-2 c = search needs

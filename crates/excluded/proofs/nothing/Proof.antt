@@ -1,4 +1,4 @@
-use Rattle.excluded.proofs.Bits.{excludes-none}
+use Rattle.excluded.proofs.Sets.{excludes-none}
 use borrow.Author.Needs.{needs}
 use Rattle.excluded.proofs.nothing.Statement.{statement}
 use Rattle.excluded.proofs.nothing.Tie as tie

@@ -4,7 +4,7 @@ use Prim.Native.Nat.{_≤_, _-_}
 use native.Mathlib.Omega.{arith}
 use mathlib.Core.Path.{_≡_, refl}
 use Rattle.records.proofs.Readers.{reads-list}
-use Rattle.excluded.proofs.Bits.{ranged-none, ranged-more}
+use Rattle.excluded.proofs.Sets.{ranged-none, ranged-more}
 use borrow.Author.Needs.{needs}
 use Rattle.excluded.proofs.with_constants.Statement.{statement}
 use Rattle.excluded.proofs.with_constants.Tie as tie

@@ -7,7 +7,7 @@ use lib.ListN.{length}
 use borrow.Author.Needs.{needs}
 use Rattle.records.proofs.Readers.{reads-list, reads-term, reads-pattern, reads-function, reads-axiom}
 use Rattle.levels.proofs.Steps.{ready-next, did-length}
-use Rattle.excluded.proofs.Bits.{excludes-listed, listed}
+use Rattle.excluded.proofs.Sets.{excludes-listed, listed}
 use Rattle.walk.specs.Walk.{Walked, Included, termsStep, patternsStep, axiomsStep}
 use Rattle.book_test.proofs.TermKinds.{good-literal, good-id, good-built-in, good-application, good-if, good-let, good-quantifier}
 use Rattle.walk.proofs.Shapes.{last-kind}
