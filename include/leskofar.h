@@ -43,10 +43,7 @@ enum leskofar_refusal {
     LESKOFAR_CHECKS_DIFFER = 27        /* the script has more or fewer check-sats than there are questions */
 };
 
-/*
- * The least scratch that a call takes: a bit for each of the 1,024 terms that a book may have. It need not be cleared first. Afterwards all
- * of it is zero, also where it is longer; under refusal 1 not a byte is touched.
- */
+/* The least scratch that a call takes: a bit for each of the 1,024 terms that a book may have. It need not be cleared first. */
 #define LESKOFAR_SCRATCH 128
 
 /*
