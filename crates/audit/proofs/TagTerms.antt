@@ -9,7 +9,7 @@ use Rattle.basics.proofs.Loops.{all-none, all-more, all-stop, all-done, all-pla
 use Rattle.book.specs.Book.{Book, terms, size, field}
 use Rattle.book.specs.Decode.{literalOf, literalAt, program}
 use Rattle.book.proofs.Terms.{literals-length, literal-at}
-use Rattle.solver_expr.specs.Lowering.{isTag}
+use Rattle.book.specs.RExpr.{isTag}
 use Rattle.literals.proofs.Looking.{literal-kind, other-kind}
 use Rattle.audit.specs.Audit.{hasNoTag}
 

@@ -10,7 +10,7 @@ use Rattle.basics.specs.Text.{Text}
 use Rattle.basics.specs.Lists.{all}
 use Rattle.basics.specs.Buffer.{scratchLeast, scratchAfter}
 use Rattle.basics.specs.Outcome.{Outcome, refused, accepted, refuse, _>>_}
-use Rattle.book.specs.RExpr.{Literal}
+use Rattle.book.specs.RExpr.{Literal, isTag}
 use Rattle.book.specs.Refusal.{number}
 use Rattle.book.specs.Book.{Book}
 use Rattle.book.specs.Decode.{program}
@@ -19,7 +19,6 @@ use Rattle.book_forest.specs.Forest.{isForest}
 use Rattle.book_depth.specs.Depth.{shallow}
 use Rattle.book_test.specs.BookTest.{inRange}
 use Rattle.number_lists.specs.Numbers.{numbers}
-use Rattle.solver_expr.specs.Lowering.{isTag}
 use Rattle.smt_engines.specs.Reader.{Stack}
 use Rattle.script_checks.specs.ScriptChecks.{checks, isForeign}
 use Rattle.live_lines.specs.LiveLines.{scriptMost}

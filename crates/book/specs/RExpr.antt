@@ -3,7 +3,7 @@ use Prim.Native.Nat.{ℕ}
 use mathlib.Core.List.{List}
 use mathlib.Core.Bool.{Bool}
 use lib.IntN.{ℤ}
-use Rattle.basics.specs.Text.{Text}
+use Rattle.basics.specs.Text.{Text, ascii, same}
 use Rattle.book.specs.SType.{SType, SConstant}
 
 -- explainedBy holds axiom numbers
@@ -18,6 +18,10 @@ pub record Function : Type 0 where
 pub record Literal : Type 0 where
   pub s : Text
   pub typ : SType
+
+-- the literal that is replaced by a number: its text, whatever its type
+unfoldable pub isTag : Literal → Bool
+isTag l = same (l .s) (ascii "%tag")
 
 pub data ROperator : Type 0 where
   BuiltInOperator : Text → ROperator

@@ -33,6 +33,7 @@ pub enum Refusal {
     TagInBook,
     ForeignLine,
     ChecksDiffer,
+    BadName,
 }
 
 // A number has four bytes, an entry of the table of contents two numbers.

@@ -7,7 +7,8 @@ use lib.ListN.{length, drop}
 use Rattle.basics.specs.Write.{MOST, WroteAt}
 use Rattle.book.specs.Book.{Book, terms, field}
 use Rattle.book.specs.Decode.{literalOf, program}
-use Rattle.solver_expr.specs.Lowering.{isTag, literalName}
+use Rattle.book.specs.RExpr.{isTag}
+use Rattle.solver_expr.specs.Lowering.{literalName}
 use Rattle.smt_engines.specs.Command.{DeclareLiteral, script}
 use Rattle.rsolver.specs.LevelState.{literalPlaces, literalPlace, joinAt, nameIn}
 use Rattle.rsolver.specs.REngine.{declareLiteral}

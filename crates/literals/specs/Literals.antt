@@ -7,7 +7,8 @@ use lib.ListN.{getD}
 use Rattle.basics.specs.Text.{Text}
 use Rattle.book.specs.Book.{Book}
 use Rattle.book.specs.Decode.{literalOf, literalAt}
-use Rattle.solver_expr.specs.Lowering.{isTag, literalName}
+use Rattle.book.specs.RExpr.{isTag}
+use Rattle.solver_expr.specs.Lowering.{literalName}
 use Rattle.rsolver.specs.Step.{Step, _⨟_, unless}
 use Rattle.rsolver.specs.LevelState.{LevelState, literalPlaces, hasName}
 use Rattle.rsolver.specs.REngine.{declareNewTypes, declareLiteral}

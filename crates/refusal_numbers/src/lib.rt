@@ -26,5 +26,6 @@ pub fn number(why: Refusal) -> u32
         Refusal::TagInBook => 25,
         Refusal::ForeignLine => 26,
         Refusal::ChecksDiffer => 27,
+        Refusal::BadName => 28,
     }
 }

@@ -12,9 +12,9 @@ use lib.ListN.{length}
 use borrow.Author.Tests.{ltb-false}
 use Rattle.basics.specs.Lists.{all, member}
 use Rattle.book.specs.SType.{SType, SBool, SInt, SUserType}
-use Rattle.book.specs.RExpr.{RExpr, RExprs, RPatterns, ROperator, BuiltInOperator, UserDefinedFunction, Boolean, Integer, CustomLiteral, Id, FuncAppl, IfThenElse, LetExpr, QuantifierExpr, []ʳ, _∷ʳ_, []ᵖ, _∷ᵖ_}
+use Rattle.book.specs.RExpr.{RExpr, RExprs, RPatterns, isTag, ROperator, BuiltInOperator, UserDefinedFunction, Boolean, Integer, CustomLiteral, Id, FuncAppl, IfThenElse, LetExpr, QuantifierExpr, []ʳ, _∷ʳ_, []ᵖ, _∷ᵖ_}
 use Rattle.book.specs.Program.{Program, axiomAt, nodeAt, depth}
-use Rattle.solver_expr.specs.Lowering.{isTag, literalName}
+use Rattle.solver_expr.specs.Lowering.{literalName}
 use Rattle.smt_engines.specs.Command.{Pop}
 use Rattle.rsolver.specs.Step.{Step, skip, _⨟_, for, doUnless, unless, doEither, either}
 use Rattle.rsolver.specs.Methods.{constant, function, axiom′, Methods, withPop}

@@ -10,10 +10,10 @@ use Rattle.basics.specs.Lists.{all, member}
 use Rattle.basics.proofs.All.{All, end, more}
 use Rattle.basics.proofs.Bool.{or-right}
 use Rattle.book.specs.SType.{SType, SBool, SInt, SUserType, SConstant}
-use Rattle.book.specs.RExpr.{RExpr, RExprs, RPatterns, Literal, ROperator, BuiltInOperator, UserDefinedFunction, Boolean, Integer, CustomLiteral, Id, FuncAppl, IfThenElse, LetExpr, QuantifierExpr, []ʳ, _∷ʳ_, []ᵖ, _∷ᵖ_}
+use Rattle.book.specs.RExpr.{RExpr, RExprs, RPatterns, Literal, isTag, ROperator, BuiltInOperator, UserDefinedFunction, Boolean, Integer, CustomLiteral, Id, FuncAppl, IfThenElse, LetExpr, QuantifierExpr, []ʳ, _∷ʳ_, []ᵖ, _∷ᵖ_}
 use Rattle.book.specs.Program.{Program, Axiom, axiomAt}
 use Rattle.book.proofs.Every.{EveryR, EveryRs, EveryPs, EveryTerm}
-use Rattle.solver_expr.specs.Lowering.{isTag, literalName}
+use Rattle.solver_expr.specs.Lowering.{literalName}
 use Rattle.smt_engines.specs.Command.{Command, Assume, AssumeNot}
 use Rattle.rsolver.specs.Step.{Step, skip, _⨟_, for, doUnless, unless, doEither, either}
 use Rattle.rsolver.specs.Methods.{Marker, type, constant, function, axiom′, Methods}

@@ -9,10 +9,10 @@ use Rattle.basics.specs.Text.{Text, ascii, same}
 use Rattle.basics.specs.Lists.{all, member}
 use Rattle.basics.specs.Basics.{int2StringNoLeadingZero, nat2String, int2String}
 use Rattle.book.specs.SType.{SType, SBool, SInt, SUserType, SConstant}
-use Rattle.book.specs.RExpr.{RExpr, RExprs, Function, Literal, BuiltInOperator, UserDefinedFunction, Boolean, Integer, CustomLiteral, Id, FuncAppl, QuantifierExpr, []ʳ, _∷ʳ_, []ᵖ, _∷ᵖ_}
+use Rattle.book.specs.RExpr.{RExpr, RExprs, Function, Literal, isTag, BuiltInOperator, UserDefinedFunction, Boolean, Integer, CustomLiteral, Id, FuncAppl, QuantifierExpr, []ʳ, _∷ʳ_, []ᵖ, _∷ᵖ_}
 use Rattle.book.specs.Program.{Program, Axiom, Context, nodeAt, pathUp, path, depth}
 use Rattle.solver_expr.specs.SolverExpr.{flat, extraIndent, space, nameToString, toString, boolean, integer, id, funcAppl, negation, typeToSExpr, typeToString, typeList, typesToSExpr}
-use Rattle.solver_expr.specs.Lowering.{operatorName, isTag, literalName, literalToString, boundVarToSExpr, boundVarsToSExpr, annotate, quantifier, toSExpr}
+use Rattle.solver_expr.specs.Lowering.{operatorName, literalName, literalToString, boundVarToSExpr, boundVarsToSExpr, annotate, quantifier, toSExpr}
 use Rattle.smt_engines.specs.SmtEngines.{CMD_PUSH, CMD_POP, CMD_CHECK_SAT, CMD_GET_MODEL, contextToString}
 use Rattle.smt_engines.specs.Command.{assumption, declaration, commandToString}
 use Rattle.smt_engines.specs.Reader.{lines}

@@ -7,9 +7,9 @@ use lib.Dec.{ltb}
 use lib.ListN.{length}
 use Rattle.basics.specs.Lists.{all, member}
 use Rattle.book.specs.SType.{STypeDecl, SType, SBool, SInt, SUserType, SConstant}
-use Rattle.book.specs.RExpr.{RExpr, RExprs, RPatterns, Function, Literal, ROperator, BuiltInOperator, UserDefinedFunction, Boolean, Integer, CustomLiteral, Id, FuncAppl, IfThenElse, LetExpr, QuantifierExpr, []ʳ, _∷ʳ_, []ᵖ, _∷ᵖ_}
+use Rattle.book.specs.RExpr.{RExpr, RExprs, RPatterns, Function, Literal, isTag, ROperator, BuiltInOperator, UserDefinedFunction, Boolean, Integer, CustomLiteral, Id, FuncAppl, IfThenElse, LetExpr, QuantifierExpr, []ʳ, _∷ʳ_, []ᵖ, _∷ᵖ_}
 use Rattle.book.specs.Program.{Program, axiomAt, nodeAt, depth}
-use Rattle.solver_expr.specs.Lowering.{isTag, literalName}
+use Rattle.solver_expr.specs.Lowering.{literalName}
 use Rattle.smt_engines.specs.Command.{Push, Pop, CheckSat, GetModel, Assume, AssumeNot, DeclareSort, DeclareConstant, DeclareFunction, DeclareLiteral}
 use Rattle.rsolver.specs.Step.{Step, skip, _⨟_, for, unless, either}
 use Rattle.rsolver.specs.Methods.{type, constant, function, axiom′, Methods}

@@ -12,7 +12,7 @@ use Rattle.basics.specs.Write.{MOST, Wrote}
 use Rattle.basics.proofs.Laws.{length-overlay, take-overlay}
 use Rattle.book.specs.Refusal.{number}
 use Rattle.book.specs.declared.Refusal.{Refusal}
-use Rattle.book.specs.declared.Refusal.the-variants.{ShortScratch, BadContents, CountOverLimit, FieldOutOfRange, NoForest, TooDeep, NotInBook, ReplyIsUnsat, MissingAxiom, BufferTooShort, NoOperator, NoSession, QuestionOpen, NoReplyOwed, NoModelOwed, TooDeepForNarrow, TagInBook, ForeignLine, ChecksDiffer}
+use Rattle.book.specs.declared.Refusal.the-variants.{ShortScratch, BadContents, CountOverLimit, FieldOutOfRange, NoForest, TooDeep, NotInBook, ReplyIsUnsat, MissingAxiom, BufferTooShort, NoOperator, NoSession, QuestionOpen, NoReplyOwed, NoModelOwed, TooDeepForNarrow, TagInBook, ForeignLine, ChecksDiffer, BadName}
 use Rattle.solvers.specs.Session.{Written, textOf}
 use Rattle.solvers.specs.Calls.{Host}
 use Rattle.solvers.specs.declared.Answer.{Answer}
@@ -55,6 +55,7 @@ line-short TooDeepForNarrow = omega arith
 line-short TagInBook = omega arith
 line-short ForeignLine = omega arith
 line-short ChecksDiffer = omega arith
+line-short BadName = omega arith
 
 -- an accepted text stands where its call wrote it
 pub told-shows : (h : Host) (o : Outcome Written) → FitsIn h o → {n : ℕ} {t1 t2 : List ℕ} → t1 ≡ bufferAfter o textOf (h .text) → Tells (mapOutcome values o) n t1 t2 → Shows (told o) n t2

@@ -9,10 +9,10 @@ use Rattle.basics.specs.Basics.{nat2String}
 use Rattle.basics.proofs.All.{All, end, more}
 use Rattle.basics.proofs.Clean.{Clean, clean-append, clean-nat}
 use Rattle.book.specs.SType.{SType, SBool, SInt, SUserType, SConstant}
-use Rattle.book.specs.RExpr.{RExpr, RExprs, RPatterns, Function, Literal, ROperator, BuiltInOperator, UserDefinedFunction, Boolean, Integer, CustomLiteral, Id, FuncAppl, IfThenElse, LetExpr, QuantifierExpr, []ʳ, _∷ʳ_, []ᵖ, _∷ᵖ_}
+use Rattle.book.specs.RExpr.{RExpr, RExprs, RPatterns, Function, Literal, isTag, ROperator, BuiltInOperator, UserDefinedFunction, Boolean, Integer, CustomLiteral, Id, FuncAppl, IfThenElse, LetExpr, QuantifierExpr, []ʳ, _∷ʳ_, []ᵖ, _∷ᵖ_}
 use Rattle.book.proofs.Every.{Asked, EveryR, EveryRs, EveryPs}
 use Rattle.solver_expr.specs.SolverExpr.{SExpr, SExprs, S, PP, []ˢ, _∷ˢ_, flat, extraIndent, space, nameToString, toString, listToString, argsToString, boolean, integer, id, funcAppl, negation, typeToSExpr, typeToString, typeList, typesToSExpr}
-use Rattle.solver_expr.specs.Lowering.{operatorName, literalName, literalToString, isTag, boundVarToSExpr, boundVarsToSExpr, annotate, quantifier, toSExpr, toSExprs, patternsToSExprs}
+use Rattle.solver_expr.specs.Lowering.{operatorName, literalName, literalToString, boundVarToSExpr, boundVarsToSExpr, annotate, quantifier, toSExpr, toSExprs, patternsToSExprs}
 
 -- ---- S-expressions over clean names
 abbrev mutual

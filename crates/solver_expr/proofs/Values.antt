@@ -10,9 +10,10 @@ use Rattle.basics.specs.Basics.{int64}
 use Rattle.basics.specs.Write.{MOST}
 use Rattle.book.specs.Book.{Book, types, constants, functions, terms, size, field, nameText}
 use Rattle.book.specs.Decode.{kindOf, constantOf, functionOf, typeOf, literalOf, termBy}
+use Rattle.book.specs.RExpr.{isTag}
 use Rattle.book_test.specs.Promise.{Promise, Range, GoodKind}
 use Rattle.solver_expr.specs.SolverExpr.{SExpr, S, boolean, integer, id, funcAppl, negation, typeToSExpr}
-use Rattle.solver_expr.specs.Lowering.{operatorName, isTag, literalToString, toSExpr}
+use Rattle.solver_expr.specs.Lowering.{operatorName, literalToString, toSExpr}
 use Rattle.solver_expr.specs.Values.{wordText, textOf, rowOf, meaning, termOf, termsOf, patternsOf, quantifierWord, LiteralHere, FineName, FineRow, Fine, Ready, ReadyType, IsBoolean, IsInteger, IsAppl, IsNegation, IsId, IsType, IsLiteral, Lowered, withoutVariables, Bare}
 use Rattle.solver_expr.specs.declared.Word.the-variants as word
 use Rattle.solver_expr.specs.declared.SName.{SName}

@@ -5,17 +5,13 @@ use mathlib.Core.Bool.{Bool, true, false}
 use Rattle.basics.specs.Text.{Text, ascii, same, if_then_else_}
 use Rattle.basics.specs.Basics.{nat2String}
 use Rattle.book.specs.SType.{SConstant}
-use Rattle.book.specs.RExpr.{RExpr, RExprs, RPatterns, Literal, ROperator, BuiltInOperator, UserDefinedFunction, Boolean, Integer, CustomLiteral, Id, FuncAppl, IfThenElse, LetExpr, QuantifierExpr, []ʳ, _∷ʳ_, []ᵖ, _∷ᵖ_}
+use Rattle.book.specs.RExpr.{RExpr, RExprs, RPatterns, Literal, isTag, ROperator, BuiltInOperator, UserDefinedFunction, Boolean, Integer, CustomLiteral, Id, FuncAppl, IfThenElse, LetExpr, QuantifierExpr, []ʳ, _∷ʳ_, []ᵖ, _∷ᵖ_}
 use Rattle.solver_expr.specs.SolverExpr.{SExpr, SExprs, S, PP, []ˢ, _∷ˢ_, boolean, integer, id, funcAppl, typeToSExpr, typeToString}
 
 -- ROperator.ToString
 unfoldable pub operatorName : ROperator → Text
 operatorName (BuiltInOperator name) = name
 operatorName (UserDefinedFunction func) = func .name
-
--- the literal that is replaced by a number: its text, whatever its type
-unfoldable pub isTag : Literal → Bool
-isTag l = same (l .s) (ascii "%tag")
 
 -- CustomLiteralToSExprName
 unfoldable pub literalName : Literal → Text

@@ -10,6 +10,7 @@ use Rattle.book.specs.Refusal.{number}
 use Rattle.book.specs.Book.{offset, size, field, entries, letter, nameText}
 use Rattle.book.specs.Program.{nodeAt, pathUp, path, depth, shared}
 use Rattle.book.specs.Decode.{kindOf, toRExprs, toRPatterns, typeOf, constantOf, functionOf, literalOf, argsOf, patternOf, termBy, termOver, firstTerms, term, literalBy, literalAt, axiomTerm, axiomOf, traceOf, contextOf, program}
+use Rattle.book.specs.RExpr.{isTag}
 use Rattle.book_contents.specs.Contents.{laidFrom, laidOut, countFits, countsFit}
 use Rattle.book_fields.specs.Fields.{within, typeLimit, entryBelow, isRange, letterInRange, nameInRange, typeInRange, constantInRange, functionInRange, axiomInRange, patternInRange, contextInRange, fieldsInRange}
 use Rattle.book_terms.specs.Terms.{isZero, uses, kindInRange, termInRange, termsInRange}
@@ -17,7 +18,7 @@ use Rattle.book_forest.specs.Forest.{entryReference, rangeReferences, patternRe
 use Rattle.book_depth.specs.Depth.{steps, nodeDepth, isShallow, shallow}
 use Rattle.book_test.specs.BookTest.{inRange, bookTest, ready, testedValue, bookTestCall}
 use Rattle.solver_expr.specs.SolverExpr.{typeToSExpr, typeList, typesToSExpr, typeToString, flat, extraIndent, space, nameToString, toString, listToString, argsToString, boolean, integer, id, funcAppl, eq, negation, bigAnd}
-use Rattle.solver_expr.specs.Lowering.{operatorName, isTag, literalName, literalToString, boundVarToSExpr, boundVarsToSExpr, annotate, quantifier, toSExpr, toSExprs, patternsToSExprs}
+use Rattle.solver_expr.specs.Lowering.{operatorName, literalName, literalToString, boundVarToSExpr, boundVarsToSExpr, annotate, quantifier, toSExpr, toSExprs, patternsToSExprs}
 use Rattle.solver_expr.specs.Operators.{operatorToString, operatorOf}
 use Rattle.solver_expr.specs.Print.{printedValue, printed, fitting as fittingText, printText, printCall, operatorText, operatorCall}
 use Rattle.smt_engines.specs.SmtEngines.{CMD_PUSH, CMD_POP, CMD_CHECK_SAT, CMD_GET_MODEL, contextToString}

@@ -1,6 +1,6 @@
 use Rattle.basics.specs.Text.{Text, same, ascii}
 use Rattle.book.specs.Decode.{literalOf}
-use Rattle.solver_expr.specs.Lowering.{isTag}
+use Rattle.book.specs.RExpr.{isTag}
 use mathlib.Core.Path.{ap, _∙_}
 use Rattle.records.proofs.Readers.{named-term}
 use borrow.Author.Needs.{needs}

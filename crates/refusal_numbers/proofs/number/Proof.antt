@@ -80,10 +80,15 @@ returns-19 : tie.Need-returns-19
 unfolding number
 returns-19 c = sym (ap number (c .enum-told19 .given .1))
 
+returns-20 : tie.Need-returns-20
+unfolding number
+returns-20 c = sym (ap number (c .enum-told20 .given .1))
+
 pub number-spec : {M : Type 1} → statement M
 number-spec =
     tie.close
     (tie.spec
+    (λ c. search needs)
     (λ c. search needs)
     (λ c. search needs)
     (λ c. search needs)
@@ -121,4 +126,5 @@ number-spec =
     returns-16
     returns-17
     returns-18
-    returns-19)
+    returns-19
+    returns-20)

@@ -1,0 +1,7 @@
+mod LetterTable
+mod WordTable
+mod Walking
+mod Tests
+pub mod Kept
+pub mod Bars
+mod Worked
