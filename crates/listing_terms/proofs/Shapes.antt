@@ -8,8 +8,7 @@ use Rattle.book.specs.Book.{Book, constants, terms, size, field, nameText}
 use Rattle.book.specs.Decode.{kindOf, constantOf, functionOf, literalOf, termBy, term}
 use Rattle.book_test.specs.Promise.{Promise, Range}
 use Rattle.book_test.proofs.TermKinds.{each-kind, known, shape, good-built-in, good-application}
-use Rattle.solver_expr.specs.Lowering.{operatorName}
-use Rattle.rsolver.specs.Listing.{boundVarToString, customLiteralToString, rexprToString, rexprListToString}
+use Rattle.rsolver.specs.Listing.{roperatorToString, boundVarToString, customLiteralToString, rexprToString, rexprListToString}
 use Rattle.listing_terms.specs.Texts.{booleanText, integerText, operatorText, universal, variablesText, termsText, patternsText, argumentsText, ifText, letText, quantifierText}
 
 module _ {b : Book} (P : Promise b) {t : ℕ} (here : t < size b terms) {k : ℕ} (kind : k ≡ field b terms t 0) where
@@ -48,11 +47,11 @@ module _ {b : Book} (P : Promise b) {t : ℕ} (here : t < size b terms) {k : ℕ
   of-id e ev h = h ∙ rw (ev, is, e)
 
   of-built-in : k ≡ 4 → operatorText b t ++ argumentsText b t ≡ rexprToString (term b t)
-  unfolding rexprToString termBy kindOf operatorName operatorText argumentsText termsText rexprListToString
+  unfolding rexprToString termBy kindOf roperatorToString operatorText argumentsText termsText rexprListToString
   of-built-in e = rw (is, ← kind, e) (simp append-assoc)
 
   of-function : k ≡ 5 → operatorText b t ++ argumentsText b t ≡ rexprToString (term b t)
-  unfolding rexprToString termBy kindOf operatorName functionOf operatorText argumentsText termsText rexprListToString
+  unfolding rexprToString termBy kindOf roperatorToString functionOf operatorText argumentsText termsText rexprListToString
   of-function e = rw (is, ← kind, e) (simp append-assoc)
 
   pub of-application : 4 ≤ k → k ≤ 5 → operatorText b t ++ argumentsText b t ≡ rexprToString (term b t)

@@ -5,9 +5,9 @@ use mathlib.Core.List.{List, [], _∷_, _++_, map}
 use mathlib.Core.Bool.{Bool, true, false}
 use mathlib.Core.Option.{Option, none, some}
 use lib.IntN.{pos}
-use Rattle.basics.specs.Text.{Text, ascii, same}
-use Rattle.basics.specs.Lists.{all, member}
+use Rattle.basics.specs.Text.{Text, ascii}
 use Rattle.basics.specs.Basics.{int2StringNoLeadingZero, nat2String, int2String}
+use Rattle.symbols.proofs.Opened.{opened}
 use Rattle.book.specs.SType.{SType, SBool, SInt, SUserType, SConstant}
 use Rattle.book.specs.RExpr.{RExpr, RExprs, Function, Literal, isTag, BuiltInOperator, UserDefinedFunction, Boolean, Integer, CustomLiteral, Id, FuncAppl, QuantifierExpr, []ʳ, _∷ʳ_, []ᵖ, _∷ᵖ_}
 use Rattle.book.specs.Program.{Program, Axiom, Context, nodeAt, pathUp, path, depth}
@@ -24,7 +24,7 @@ use Rattle.rsolver.specs.LevelState.{LevelState, place, literalPlace, jo
 use Rattle.rsolver.specs.REngine.{withConstants, declareType, declareConstant, declareFunction, declareLiteral, assume, assumeNot, declareNewTypes, declareTypeOf, sendAxiom, includeAxiom, declareOperator, declareSymbols, walk, declareNewSymbols, enter, adjustContext, popTimes, setContext, askGoal}
 
 everything : Unit {0}
-unfolding same all member int2StringNoLeadingZero nat2String int2String nodeAt pathUp path depth flat extraIndent space nameToString toString boolean integer id funcAppl negation typeToSExpr typeToString typeList typesToSExpr operatorName isTag literalName literalToString boundVarToSExpr boundVarsToSExpr annotate quantifier toSExpr CMD_PUSH CMD_POP CMD_CHECK_SAT CMD_GET_MODEL contextToString assumption declaration commandToString lines skip _⨟_ for doUnless unless doEither either sameMarker isIn with′ newSolver pushed popTo popped told marked named missed body.isTop place literalPlace joinAt forget count hasName nameIn noLevels fresh isTop isDeclaredAt push pop send declareAt miss withConstants declareType declareConstant declareFunction declareLiteral assume assumeNot declareNewTypes declareTypeOf sendAxiom includeAxiom declareOperator declareSymbols walk declareNewSymbols enter adjustContext popTimes setContext askGoal
+unfolding opened int2StringNoLeadingZero nat2String int2String nodeAt pathUp path depth flat extraIndent space nameToString toString boolean integer id funcAppl negation typeToSExpr typeToString typeList typesToSExpr operatorName isTag literalName literalToString boundVarToSExpr boundVarsToSExpr annotate quantifier toSExpr CMD_PUSH CMD_POP CMD_CHECK_SAT CMD_GET_MODEL contextToString assumption declaration commandToString lines skip _⨟_ for doUnless unless doEither either sameMarker isIn with′ newSolver pushed popTo popped told marked named missed body.isTop place literalPlace joinAt forget count hasName nameIn noLevels fresh isTop isDeclaredAt push pop send declareAt miss withConstants declareType declareConstant declareFunction declareLiteral assume assumeNot declareNewTypes declareTypeOf sendAxiom includeAxiom declareOperator declareSymbols walk declareNewSymbols enter adjustContext popTimes setContext askGoal
 everything = tt
 
 z : SConstant

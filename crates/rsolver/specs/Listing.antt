@@ -9,17 +9,21 @@ use Rattle.basics.specs.Basics.{int2String, comma, seqToString}
 use Rattle.basics.specs.Outcome.{Outcome, refuse, _>>_}
 use Rattle.book.specs.Book.{Book, terms, contexts, size}
 use Rattle.book.specs.SType.{SConstant}
-use Rattle.book.specs.RExpr.{RExpr, RExprs, RPatterns, Literal, Boolean, Integer, CustomLiteral, Id, FuncAppl, IfThenElse, LetExpr, QuantifierExpr, []ʳ, _∷ʳ_, []ᵖ, _∷ᵖ_}
+use Rattle.book.specs.RExpr.{RExpr, RExprs, RPatterns, Literal, ROperator, BuiltInOperator, UserDefinedFunction, Boolean, Integer, CustomLiteral, Id, FuncAppl, IfThenElse, LetExpr, QuantifierExpr, []ʳ, _∷ʳ_, []ᵖ, _∷ᵖ_}
 use Rattle.book.specs.Program.{Program, nodeAt, path}
 use Rattle.book.specs.Decode.{term, program}
 use Rattle.book_test.specs.BookTest.{ready}
 use Rattle.solver_expr.specs.SolverExpr.{typeToString}
-use Rattle.solver_expr.specs.Lowering.{operatorName}
 use Rattle.solver_expr.specs.Print.{Printed, printed, fitting}
 
 -- what stands between the parts of a list
 unfoldable pub COMMA : Text
 COMMA = ascii ", "
+
+-- ROperator.ToString; what the solver gets is operatorName
+unfoldable pub roperatorToString : ROperator → Text
+roperatorToString (BuiltInOperator name) = name
+roperatorToString (UserDefinedFunction func) = func .name
 
 unfoldable pub boundVarToString : SConstant → Text
 boundVarToString v = v .name ++ ascii ": " ++ typeToString (v .typ)
@@ -40,7 +44,7 @@ unfoldable mutual
   rexprToString (Integer x) = int2String x
   rexprToString (CustomLiteral n l) = customLiteralToString l
   rexprToString (Id v) = v .name
-  rexprToString (FuncAppl op args) = operatorName op ++ ascii "(" ++ comma (rexprStrings args) COMMA ++ ascii ")"
+  rexprToString (FuncAppl op args) = roperatorToString op ++ ascii "(" ++ comma (rexprStrings args) COMMA ++ ascii ")"
   rexprToString (IfThenElse guard thn els) =
       ascii "(if " ++ rexprToString guard ++ ascii " " ++ rexprToString thn ++ ascii " else " ++ rexprToString els ++ ascii ")"
   rexprToString (LetExpr v rhs body) =

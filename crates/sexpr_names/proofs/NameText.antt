@@ -8,6 +8,8 @@ use Rattle.basics.specs.Text.{Text, ascii}
 use Rattle.basics.specs.Basics.{int2StringNoLeadingZero, nat2String}
 use Rattle.basics.specs.Write.{Wrote}
 use Rattle.basics.proofs.Laws.{wrote-as}
+use Rattle.symbols.specs.Symbols.{symbolText}
+use Rattle.symbols.proofs.Kept.{symbol-some}
 use Rattle.book.specs.Book.{Book, names, types, terms, field, nameText}
 use Rattle.book.specs.Decode.{typeOf, literalOf}
 use Rattle.solver_expr.specs.SolverExpr.{nameToString, typeToString}
@@ -74,7 +76,7 @@ module _ (b : Book) where
   pub literal-type : (t : ℕ) {k : ℕ} → ReadyLiteral b t → k ≡ field b terms t 2 → ReadyType b k
   literal-type t r e = record { promise = r .promise; here = rw e (r .here .good .typ) }
 
--- Words, numbers and literals are not empty.
+-- Words, symbols, numbers and literals are not empty.
 
 pub word-as : {w v : Word} {o o1 : List ℕ} {r : ℕ} → w ≡ v → Wrote (wordText v) o o1 r → Wrote (wordText w) o o1 r
 word-as e h = rw e h
@@ -108,9 +110,9 @@ module _ (b : Book) (tag : ℕ) {n : SName} {o o1 : List ℕ} {r : ℕ} where
   unfolding textOf
   wrote-operator e h = rw e h
 
-  pub wrote-symbol : {k : ℕ} → n ≡ name.Symbol k → Wrote (nameToString (nameText b k)) o o1 r → Wrote (nameToString (textOf b tag n)) o o1 r
+  pub wrote-symbol : {k : ℕ} → n ≡ name.Symbol k → Wrote (symbolText (nameText b k)) o o1 r → Wrote (nameToString (textOf b tag n)) o o1 r
   unfolding textOf
-  wrote-symbol e h = rw e h
+  wrote-symbol {k} e h = rw e (wrote-as (shown (symbolText (nameText b k)) (symbol-some (nameText b k))) h)
 
   pub wrote-numeral : {x : ℕ} → n ≡ name.Numeral x → Wrote (nat2String x) o o1 r → Wrote (nameToString (textOf b tag n)) o o1 r
   unfolding textOf

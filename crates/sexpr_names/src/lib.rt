@@ -3,6 +3,7 @@ ghost use mathlib.Core.List.{_++_};
 ghost use Rattle.basics.specs.Text.{ascii};
 ghost use Rattle.basics.specs.Write.{Wrote};
 ghost use Rattle.book.specs.Book.{names, nameText};
+ghost use Rattle.symbols.specs.Symbols.{symbolText};
 ghost use Rattle.book.specs.Decode.{typeOf, literalOf};
 ghost use Rattle.solver_expr.specs.SolverExpr.{nameToString, typeToString};
 ghost use Rattle.solver_expr.specs.Lowering.{literalName};
@@ -38,7 +39,7 @@ fn put_word(w: Word, out: &mut [u8]) -> usize
     }
 }
 
-// Name n where S(name) is printed: an empty one is ().
+// Name n of a built-in operator where S(name) is printed: an empty one is ().
 pub fn put_name(book: &[u8], n: usize, out: &mut [u8]) -> usize
     requires { ⌜ Ready (now book) names n ⌝ }
     ensures { λ r. ⌜ Wrote (nameToString (nameText (now (book .entry)) n)) (now (out .entry)) (now (out .exit)) r ⌝ }
@@ -48,6 +49,14 @@ pub fn put_name(book: &[u8], n: usize, out: &mut [u8]) -> usize
         return put_all(b"()", out);
     }
     put_all(s, out)
+}
+
+// Name n of a type, constant or function, as a symbol of SMT-LIB 2.6.
+pub fn put_symbol(book: &[u8], n: usize, out: &mut [u8]) -> usize
+    requires { ⌜ Ready (now book) names n ⌝ }
+    ensures { λ r. ⌜ Wrote (symbolText (nameText (now (book .entry)) n)) (now (out .entry)) (now (out .exit)) r ⌝ }
+{
+    symbols::put_symbol(book::name(book, n), out)
 }
 
 // SType.ToString: a name is raw.
@@ -109,7 +118,7 @@ pub fn name_to_string(book: &[u8], n: SName, tag: u64, out: &mut [u8]) -> usize
     match n {
         SName::Word(w) => put_word(w, out),
         SName::Operator(k) => put_name(book, k, out),
-        SName::Symbol(k) => put_name(book, k, out),
+        SName::Symbol(k) => put_symbol(book, k, out),
         SName::Numeral(x) => put_u64(x, out),
         SName::Literal(t) => put_literal(book, t, out),
         SName::Tag => put_u64(tag, out),

@@ -4,6 +4,7 @@ use mathlib.Core.List.{List, [], _∷_, _++_}
 use mathlib.Core.Bool.{Bool, true, false, true≢false}
 use Prim.Native.Nat.{ℕ}
 use Rattle.basics.specs.Text.{Text, ascii, same}
+use Rattle.symbols.specs.Symbols.{symbolText}
 use Rattle.basics.proofs.Texts.{same-refl}
 use Rattle.basics.proofs.All.{All, end}
 use Rattle.basics.proofs.Clean.{Clean, clean-append}
@@ -11,7 +12,7 @@ use Rattle.book.specs.SType.{SType, STypeDecl, SConstant}
 use Rattle.book.specs.RExpr.{RExpr, Function, Literal}
 use Rattle.solver_expr.specs.SolverExpr.{SExpr, toString, flat, typeToSExpr, typesToSExpr}
 use Rattle.solver_expr.specs.Lowering.{toSExpr, literalName}
-use Rattle.solver_expr.proofs.Clean.{CleanS, printed, CleanType, CleanConstant, CleanFunction, CleanLiteral, CleanR, type-clean, types-clean, literal-clean, expr-clean, negation-clean}
+use Rattle.solver_expr.proofs.Clean.{CleanS, printed, symbol-clean, CleanType, CleanConstant, CleanFunction, CleanLiteral, CleanR, type-clean, types-clean, literal-clean, expr-clean, negation-clean}
 use Rattle.smt_engines.specs.SmtEngines.{CMD_PUSH, CMD_POP, CMD_CHECK_SAT, CMD_GET_MODEL, Context, Assumption, Declaration, SortDeclaration, contextToString}
 use Rattle.smt_engines.specs.Command.{Command, Push, Pop, CheckSat, GetModel, Assume, AssumeNot, DeclareSort, DeclareConstant, DeclareFunction, DeclareLiteral, assumption, declaration, commandToString}
 use Rattle.smt_engines.specs.Reader.{kind, joins}
@@ -69,16 +70,22 @@ plain-assume-not e tag h = record { one = assumption-clean _ (negation-clean (to
 
 pub plain-sort : (d : STypeDecl) → Clean (d .name) → Plain (DeclareSort d)
 unfolding commandToString contextToString kind same
-plain-sort d h = record { one = clean-append (d .name) (ascii " 0)") h refl; joins = refl }
+plain-sort d h = record { one = clean-append (symbolText (d .name)) (ascii " 0)") (symbol-clean (d .name) h) refl; joins = refl }
 
 pub plain-constant : (v : SConstant) → CleanConstant v → Plain (DeclareConstant v)
 unfolding commandToString
-plain-constant v h = record { one = declaration-clean (v .name) [] (v .typ) (h .name) end (h .typ); joins = declaration-joins (v .name) [] (v .typ) }
+plain-constant v h =
+    let n = symbolText (v .name) in
+    record { one = declaration-clean n [] (v .typ) (symbol-clean (v .name) (h .name)) end (h .typ); joins = declaration-joins n [] (v .typ) }
 
 pub plain-function : (f : Function) → CleanFunction f → Plain (DeclareFunction f)
 unfolding commandToString
 plain-function f h =
-    record { one = declaration-clean (f .name) (f .inputTypes) (f .typ) (h .name) (h .inputTypes) (h .typ); joins = declaration-joins (f .name) (f .inputTypes) (f .typ) }
+    let n = symbolText (f .name) in
+    record {
+      one = declaration-clean n (f .inputTypes) (f .typ) (symbol-clean (f .name) (h .name)) (h .inputTypes) (h .typ);
+      joins = declaration-joins n (f .inputTypes) (f .typ);
+    }
 
 pub plain-literal : (l : Literal) → CleanLiteral l → Plain (DeclareLiteral l)
 unfolding commandToString

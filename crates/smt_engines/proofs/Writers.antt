@@ -6,13 +6,16 @@ use mathlib.Core.List.{List, [], _∷_, _++_, append-nil, append-assoc}
 use lib.ListN.{length, take, drop}
 use Rattle.basics.specs.Text.{Text, ascii, newline}
 use Rattle.basics.specs.Write.{MOST, WroteAt}
+use Rattle.symbols.specs.Symbols.{symbolText}
 use Rattle.basics.proofs.Laws.{joined}
 use Rattle.basics.proofs.Places.{at-part}
-use Rattle.book.specs.Book.{Book, types, constants, functions, terms, field, nameText}
+use Rattle.book.specs.Book.{Book, names, types, constants, functions, terms, field, nameText}
+use Rattle.book.specs.Laid.{sectionAt}
 use Rattle.book.specs.Decode.{constantOf, functionOf, literalOf, term}
+use Rattle.records.specs.Named.{Named}
 use Rattle.solver_expr.specs.SolverExpr.{SExpr, toString, listToString, flat, typesToSExpr, typeList, negation}
 use Rattle.solver_expr.specs.Lowering.{toSExpr, literalName}
-use Rattle.solver_expr.specs.Values.{termOf, rowOf, meaning, IsType, IsNegation, Lowered}
+use Rattle.solver_expr.specs.Values.{termOf, rowOf, meaning, Ready, IsType, IsNegation, Lowered}
 use Rattle.solver_expr.specs.declared.SRow.the-variants as row
 use Rattle.solver_expr.specs.declared.SExpr as code
 use Rattle.solver_expr.specs.declared.SExpr.the-variants as value
@@ -29,6 +32,12 @@ no-inputs x = sym (append-assoc (x ++ ascii " ") (ascii "()") (ascii " ") ∙ ap
 
 module _ (b : Book) where
   -- ---- parts
+  pub symbol-part : {n m : ℕ} → n ≡ m → symbolText (nameText b n) ≡ symbolText (nameText b m)
+  symbol-part e = rw e
+
+  pub name-here : {section k i n : ℕ} → Named b section k i → n ≡ field b (sectionAt section) k i → Ready b names n
+  name-here r e = record { promise = r .promise; here = rw e (r .inside) }
+
   pub type-part : {typ : ℕ} {e : code.SExpr} (tag : ℕ) → IsType b typ e → exprText b tag e flat ≡ typeText b typ
   unfolding exprText typeText
   type-part tag h = ap {B = Text} (λ (s : SExpr). toString s flat) (h .is tag)
@@ -52,17 +61,17 @@ module _ (b : Book) where
   flat-part e tag ek w er = at-part ek (w .wrote flat (record { lines = refl; spaces = refl })) er
 
   -- ---- lines
-  pub sort-line : (k : ℕ) → ascii "(declare-sort " ++ nameText b (field b types k 0) ++ (0x20 ∷ 0x30 ∷ 0x29 ∷ newline ∷ []) ≡ script (DeclareSort (typeDeclOf b k) ∷ [])
+  pub sort-line : (k : ℕ) → ascii "(declare-sort " ++ symbolText (nameText b (field b types k 0)) ++ (0x20 ∷ 0x30 ∷ 0x29 ∷ newline ∷ []) ≡ script (DeclareSort (typeDeclOf b k) ∷ [])
   unfolding script commandToString contextToString
-  sort-line k = end-line (ascii "(declare-sort " ++ nameText b (field b types k 0)) (ascii " 0)")
+  sort-line k = end-line (ascii "(declare-sort " ++ symbolText (nameText b (field b types k 0))) (ascii " 0)")
 
-  pub constant-line : (k : ℕ) → ascii "(declare-fun " ++ nameText b (field b constants k 0) ++ ascii " () " ++ typeText b (field b constants k 1) ++ (0x29 ∷ newline ∷ []) ≡ script (DeclareConstant (constantOf b k) ∷ [])
+  pub constant-line : (k : ℕ) → ascii "(declare-fun " ++ symbolText (nameText b (field b constants k 0)) ++ ascii " () " ++ typeText b (field b constants k 1) ++ (0x29 ∷ newline ∷ []) ≡ script (DeclareConstant (constantOf b k) ∷ [])
   unfolding script commandToString contextToString declaration typesToSExpr typeList constantOf typeText toString listToString
   constant-line k =
-      ap {B = Text} (λ (x : Text). x ++ typeText b (field b constants k 1) ++ (0x29 ∷ newline ∷ [])) (no-inputs (ascii "(declare-fun " ++ nameText b (field b constants k 0)))
-      ∙ end-line (ascii "(declare-fun " ++ nameText b (field b constants k 0) ++ ascii " " ++ ascii "()" ++ ascii " " ++ typeText b (field b constants k 1)) (ascii ")")
+      ap {B = Text} (λ (x : Text). x ++ typeText b (field b constants k 1) ++ (0x29 ∷ newline ∷ [])) (no-inputs (ascii "(declare-fun " ++ symbolText (nameText b (field b constants k 0))))
+      ∙ end-line (ascii "(declare-fun " ++ symbolText (nameText b (field b constants k 0)) ++ ascii " " ++ ascii "()" ++ ascii " " ++ typeText b (field b constants k 1)) (ascii ")")
 
-  pub signature : (k : ℕ) → ascii "(declare-fun " ++ nameText b (field b functions k 0) ++ ascii " " ++ typesText b k ≡ signatureText b k
+  pub signature : (k : ℕ) → ascii "(declare-fun " ++ symbolText (nameText b (field b functions k 0)) ++ ascii " " ++ typesText b k ≡ signatureText b k
   unfolding signatureText functionOf
   signature k = refl
 

@@ -2,6 +2,7 @@
 use Prim.Native.Nat.{ℕ}
 use mathlib.Core.List.{List, [], _∷_, _++_}
 use Rattle.basics.specs.Text.{Text, newline}
+use Rattle.symbols.specs.Symbols.{symbolText}
 use Rattle.book.specs.SType.{SType, STypeDecl, SConstant}
 use Rattle.book.specs.RExpr.{RExpr, Function, Literal}
 use Rattle.solver_expr.specs.SolverExpr.{SExpr, toString, flat, typeToSExpr, typesToSExpr, negation}
@@ -32,9 +33,9 @@ commandToString CheckSat = CMD_CHECK_SAT
 commandToString GetModel = CMD_GET_MODEL
 commandToString (Assume e tag) = contextToString (assumption (toSExpr e tag))
 commandToString (AssumeNot e tag) = contextToString (assumption (negation (toSExpr e tag)))
-commandToString (DeclareSort decl) = contextToString (SortDeclaration (decl .name))
-commandToString (DeclareConstant v) = contextToString (declaration (v .name) [] (v .typ))
-commandToString (DeclareFunction func) = contextToString (declaration (func .name) (func .inputTypes) (func .typ))
+commandToString (DeclareSort decl) = contextToString (SortDeclaration (symbolText (decl .name)))
+commandToString (DeclareConstant v) = contextToString (declaration (symbolText (v .name)) [] (v .typ))
+commandToString (DeclareFunction func) = contextToString (declaration (symbolText (func .name)) (func .inputTypes) (func .typ))
 commandToString (DeclareLiteral l) = contextToString (declaration (literalName l) [] (l .typ))
 
 -- each command is a line

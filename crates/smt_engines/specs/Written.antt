@@ -2,6 +2,7 @@
 use Prim.Native.Nat.{ℕ}
 use mathlib.Core.List.{_++_}
 use Rattle.basics.specs.Text.{Text, ascii}
+use Rattle.symbols.specs.Symbols.{symbolText}
 use Rattle.book.specs.Book.{Book, types, field, nameText}
 use Rattle.book.specs.SType.{STypeDecl}
 use Rattle.book.specs.Decode.{typeOf, functionOf}
@@ -21,4 +22,4 @@ module _ (b : Book) where
 
   -- the head of a function's declaration
   unfoldable pub signatureText : ℕ → Text
-  signatureText k = ascii "(declare-fun " ++ functionOf b k .name ++ ascii " " ++ typesText k
+  signatureText k = ascii "(declare-fun " ++ symbolText (functionOf b k .name) ++ ascii " " ++ typesText k

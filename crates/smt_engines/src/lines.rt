@@ -1,4 +1,4 @@
-// The commands, each a line. A name is written as it stands in the book.
+// The commands, each a line. A name is written as a symbol of SMT-LIB 2.6.
 ghost use mathlib.Core.List.{[], _∷_};
 ghost use Prim.Native.Nat.{_<_};
 ghost use Rattle.basics.specs.Write.{WroteAt};
@@ -8,12 +8,12 @@ ghost use Rattle.book_test.specs.Promise.{Promise, GoodLiteral};
 ghost use Rattle.smt_engines.specs.Command.{Push, Pop, CheckSat, GetModel, DeclareSort, DeclareConstant, DeclareFunction, DeclareLiteral, script};
 ghost use Rattle.smt_engines.specs.Written.{typeDeclOf, signatureText};
 use super::parts::put_literal_name;
+use super::parts::put_symbol;
 use super::parts::put_type;
 use super::parts::put_types;
 use basics::put_at;
 use book::field;
 use book::format::*;
-use records::named;
 
 pub fn push(at: usize, out: &mut [u8]) -> usize
     ensures { λ r. ⌜ WroteAt (script (Push ∷ [])) at (now (out .entry)) (now (out .exit)) r ⌝ }
@@ -45,7 +45,7 @@ pub fn declare_sort(book: &[u8], k: usize, at: usize, out: &mut [u8]) -> usize
     ensures { λ r. ⌜ WroteAt (script (DeclareSort (typeDeclOf (now (book .entry)) k) ∷ [])) at (now (out .entry)) (now (out .exit)) r ⌝ }
 {
     let head = put_at(b"(declare-sort ", at, out);
-    let name = put_at(named(book, TYPES, k, TYPE_NAME), head, out);
+    let name = put_symbol(book, TYPES, k, TYPE_NAME, head, out);
     put_at(b" 0)\n", name, out)
 }
 
@@ -55,7 +55,7 @@ pub fn declare_constant(book: &[u8], k: usize, at: usize, out: &mut [u8]) -> usi
     ensures { λ r. ⌜ WroteAt (script (DeclareConstant (constantOf (now (book .entry)) k) ∷ [])) at (now (out .entry)) (now (out .exit)) r ⌝ }
 {
     let head = put_at(b"(declare-fun ", at, out);
-    let name = put_at(named(book, CONSTANTS, k, CONSTANT_NAME), head, out);
+    let name = put_symbol(book, CONSTANTS, k, CONSTANT_NAME, head, out);
     let none = put_at(b" () ", name, out);
     let typ = put_type(book, field(book, CONSTANTS, k, CONSTANT_TYPE), none, out);
     put_at(b")\n", typ, out)
@@ -67,7 +67,7 @@ fn put_signature(book: &[u8], k: usize, at: usize, out: &mut [u8]) -> usize
     ensures { λ r. ⌜ WroteAt (signatureText (now (book .entry)) k) at (now (out .entry)) (now (out .exit)) r ⌝ }
 {
     let head = put_at(b"(declare-fun ", at, out);
-    let name = put_at(named(book, FUNCTIONS, k, FUNCTION_NAME), head, out);
+    let name = put_symbol(book, FUNCTIONS, k, FUNCTION_NAME, head, out);
     let space = put_at(b" ", name, out);
     put_types(book, k, space, out)
 }

@@ -1,15 +1,19 @@
-// S-expressions and literal names as parts of a command, at a place of the buffer.
+// S-expressions and names as parts of a command, at a place of the buffer.
 ghost use Prim.Native.Nat.{_+_, _<_};
 ghost use Rattle.basics.specs.Write.{WroteAt};
-ghost use Rattle.book.specs.Book.{types, functions, terms, size, userTypes};
+ghost use Rattle.symbols.specs.Symbols.{symbolText};
+ghost use Rattle.book.specs.Book.{types, functions, terms, size, field, nameText, userTypes};
+ghost use Rattle.book.specs.Laid.{sectionAt};
 ghost use Rattle.book.specs.Decode.{literalOf};
 ghost use Rattle.book_test.specs.Promise.{Promise, GoodLiteral};
+ghost use Rattle.records.specs.Named.{Named};
 ghost use Rattle.solver_expr.specs.SolverExpr.{flat};
 ghost use Rattle.solver_expr.specs.Lowering.{literalName};
 ghost use Rattle.printer.specs.Printing.{ReadyExpr, exprText};
 ghost use Rattle.smt_engines.specs.Written.{typeText, typesText};
 use basics::clip;
 use basics::sum;
+use book::field;
 use printer::SExprPrintConfig;
 use printer::to_string;
 use sexpr_names::put_literal;
@@ -50,6 +54,24 @@ pub fn put_types(book: &[u8], k: usize, at: usize, out: &mut [u8]) -> usize
 {
     let e = SExpr::PP(SRow::Types(k));
     put_sexpr(book, e, NO_TAG, at, out)
+}
+
+// The name whose number is field i of record k, as a symbol.
+pub fn put_symbol(
+    book: &[u8],
+    section: usize,
+    k: usize,
+    i: usize,
+    at: usize,
+    out: &mut [u8],
+) -> usize
+    requires { ⌜ Named (now book) section k i ⌝ }
+    ensures { λ r. ⌜ WroteAt (symbolText (nameText (now (book .entry)) (field (now (book .entry)) (sectionAt section) k i))) at (now (out .entry)) (now (out .exit)) r ⌝ }
+{
+    let name = field(book, section, k, i);
+    let from = clip(at, out.len());
+    let n = sexpr_names::put_symbol(book, name, &mut out[from..]);
+    sum(at, n)
 }
 
 // CustomLiteralToSExprName.

@@ -6,6 +6,7 @@ use mathlib.Core.Bool.{Bool, true, false}
 use lib.IntN.{ℤ, pos, negsuc}
 use Rattle.basics.specs.Text.{Text, ascii, if_then_else_}
 use Rattle.basics.specs.Basics.{nat2String}
+use Rattle.symbols.specs.Symbols.{isSymbol, quoted, symbolText}
 use Rattle.basics.proofs.All.{All, end, more}
 use Rattle.basics.proofs.Clean.{Clean, clean-append, clean-nat}
 use Rattle.book.specs.SType.{SType, SBool, SInt, SUserType, SConstant}
@@ -75,11 +76,19 @@ cleanly = record { constant = CleanConstant; operator = CleanOperator; literal =
 abbrev pub CleanR : RExpr → Type 0
 CleanR e = EveryR cleanly e
 
+pub symbol-clean : (n : Text) → Clean n → Clean (symbolText n)
+unfolding symbolText
+symbol-clean n h = at (isSymbol n)
+  where
+    at : (t : Bool) → Clean (if t then n else quoted n)
+    at true = h
+    at false = clean-append n (ascii "|") h refl
+
 pub type-clean : (t : SType) → CleanType t → CleanS (typeToSExpr t)
 unfolding typeToSExpr
 type-clean SBool h = refl
 type-clean SInt h = refl
-type-clean (SUserType d) h = h
+type-clean (SUserType d) h = symbol-clean (d .name) h
 
 list-clean : {ts : List SType} → All CleanType ts → CleanSs (typeList ts)
 unfolding typeList
@@ -105,7 +114,7 @@ literal-clean l h =
 bound-clean : {vv : List SConstant} → All CleanConstant vv → CleanSs (boundVarsToSExpr vv)
 unfolding boundVarsToSExpr boundVarToSExpr id
 bound-clean end = tt
-bound-clean (more {a = v} h hs) = ((h .name, (type-clean (v .typ) (h .typ), tt)), bound-clean hs)
+bound-clean (more {a = v} h hs) = ((symbol-clean (v .name) (h .name), (type-clean (v .typ) (h .typ), tt)), bound-clean hs)
 
 appl-clean : (op : Text) (s : SExprs) → Clean op → CleanSs s → CleanS (funcAppl op s)
 unfolding funcAppl
@@ -126,7 +135,7 @@ quantifier-clean false (v ∷ vv) s e h k l = appl-clean (ascii "exists") _ refl
 operator-clean : (op : ROperator) → CleanOperator op → Clean (operatorName op)
 unfolding operatorName
 operator-clean (BuiltInOperator t) h = h
-operator-clean (UserDefinedFunction f) h = h .name
+operator-clean (UserDefinedFunction f) h = symbol-clean (f .name) (h .name)
 
 boolean-clean : (b : Bool) → CleanS (boolean b)
 unfolding boolean
@@ -149,12 +158,12 @@ mutual
   expr-clean (Boolean b) tag h = boolean-clean b
   expr-clean (Integer x) tag h = integer-clean x
   expr-clean (CustomLiteral t l) tag h = tag-clean (isTag l) tag (literalName l) (literal-clean l h)
-  expr-clean (Id v) tag h = h .name
+  expr-clean (Id v) tag h = symbol-clean (v .name) (h .name)
   expr-clean (FuncAppl op args) tag h = appl-clean (operatorName op) (toSExprs args tag) (operator-clean op (h .0)) (exprs-clean args tag (h .1))
   expr-clean (IfThenElse g t e) tag h =
       appl-clean (ascii "ite") _ refl (expr-clean g tag (h .0), (expr-clean t tag (h .1), (expr-clean e tag (h .2), tt)))
   expr-clean (LetExpr v r b) tag h =
-      appl-clean (ascii "let") _ refl (((h .0 .name, (expr-clean r tag (h .1), tt)), tt), (expr-clean b tag (h .2), tt))
+      appl-clean (ascii "let") _ refl (((symbol-clean (v .name) (h .0 .name), (expr-clean r tag (h .1), tt)), tt), (expr-clean b tag (h .2), tt))
   expr-clean (QuantifierExpr u vv ps b) tag h =
       quantifier-clean u vv (patternsToSExprs ps tag) (toSExpr b tag) (h .0) (patterns-clean ps tag (h .1)) (expr-clean b tag (h .2))
 

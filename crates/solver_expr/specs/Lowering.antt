@@ -4,14 +4,15 @@ use mathlib.Core.List.{List, [], _∷_, _++_}
 use mathlib.Core.Bool.{Bool, true, false}
 use Rattle.basics.specs.Text.{Text, ascii, same, if_then_else_}
 use Rattle.basics.specs.Basics.{nat2String}
+use Rattle.symbols.specs.Symbols.{symbolText}
 use Rattle.book.specs.SType.{SConstant}
 use Rattle.book.specs.RExpr.{RExpr, RExprs, RPatterns, Literal, isTag, ROperator, BuiltInOperator, UserDefinedFunction, Boolean, Integer, CustomLiteral, Id, FuncAppl, IfThenElse, LetExpr, QuantifierExpr, []ʳ, _∷ʳ_, []ᵖ, _∷ᵖ_}
 use Rattle.solver_expr.specs.SolverExpr.{SExpr, SExprs, S, PP, []ˢ, _∷ˢ_, boolean, integer, id, funcAppl, typeToSExpr, typeToString}
 
--- ROperator.ToString
+-- ROperator.ToString. A built-in operator's name is never changed.
 unfoldable pub operatorName : ROperator → Text
 operatorName (BuiltInOperator name) = name
-operatorName (UserDefinedFunction func) = func .name
+operatorName (UserDefinedFunction func) = symbolText (func .name)
 
 -- CustomLiteralToSExprName
 unfoldable pub literalName : Literal → Text

@@ -6,6 +6,7 @@ use lib.IntN.{ℤ, pos, negsuc}
 use lib.ListN.{replicate}
 use Rattle.basics.specs.Text.{Text, ascii, newline, spaceByte, if_then_else_}
 use Rattle.basics.specs.Basics.{nat2String}
+use Rattle.symbols.specs.Symbols.{symbolText}
 use Rattle.book.specs.SType.{SType, SBool, SInt, SUserType, SConstant}
 
 -- pun: solver expression. SExprs is seq<SExpr>
@@ -19,11 +20,11 @@ mutual
     _∷ˢ_ : SExpr → SExprs → SExprs
 
 infixr 67 _∷ˢ_
--- SType.ToSExpr, TypesToSExpr and ToString
+-- SType.ToSExpr, TypesToSExpr and ToString. A name goes to the solver as a symbol of SMT-LIB 2.6, where the Dafny body has the name as it is: here, in id, in operatorName and in commandToString. ToString is for the inside of a literal's name, and raw.
 unfoldable pub typeToSExpr : SType → SExpr
 typeToSExpr SBool = S (ascii "Bool")
 typeToSExpr SInt = S (ascii "Int")
-typeToSExpr (SUserType decl) = S (decl .name)
+typeToSExpr (SUserType decl) = S (symbolText (decl .name))
 
 unfoldable pub typeList : List SType → SExprs
 typeList [] = []ˢ
@@ -96,7 +97,7 @@ unfoldable pub boolean : Bool → SExpr
 boolean b = S (if b then TRUE else FALSE)
 
 unfoldable pub id : SConstant → SExpr
-id x = S (x .name)
+id x = S (symbolText (x .name))
 
 unfoldable pub funcAppl : Text → SExprs → SExpr
 funcAppl op []ˢ = S op

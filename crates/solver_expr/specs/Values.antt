@@ -7,6 +7,7 @@ use lib.IntN.{ℤ}
 use lib.Dec.{eqb}
 use Rattle.basics.specs.Text.{Text, ascii, if_then_else_}
 use Rattle.basics.specs.Basics.{nat2String}
+use Rattle.symbols.specs.Symbols.{symbolText}
 use Rattle.book.specs.Book.{Book, Section, names, types, constants, functions, patterns, terms, size, field, entries, nameText, userTypes}
 use Rattle.book.specs.Decode.{Kind, ifThenElse, letExpr, quantifierExpr, typeOf, constantOf, functionOf, literalOf, argsOf, patternOf, toRPatterns, term}
 use Rattle.book_test.specs.Promise.{Promise, Range, GoodLiteral, GoodKind}
@@ -53,7 +54,7 @@ module _ (b : Book) (tag : ℕ) where
   unfoldable pub textOf : SName → Text
   textOf (name.Word w) = wordText w
   textOf (name.Operator n) = nameText b n
-  textOf (name.Symbol n) = nameText b n
+  textOf (name.Symbol n) = symbolText (nameText b n)
   textOf (name.Numeral n) = nat2String n
   textOf (name.Literal t) = literalName (literalOf b t)
   textOf name.Tag = nat2String tag

@@ -4,4 +4,5 @@ mod Walking
 mod Tests
 pub mod Kept
 pub mod Bars
+pub mod Opened
 mod Worked

@@ -1,11 +1,11 @@
 -- What the worked examples compute with: every definition of every crate.
 -- A table says `unfolding everything` itself, and its fact only names the table. A table that is shut until its fact opens it is computed
 -- again and again: then one session takes more than the fifty million steps of a declaration.
-use Rattle.basics.specs.Text.{same}
-use Rattle.basics.specs.Lists.{allBelow, joinBelow, upTo, all, member}
+use Rattle.basics.specs.Lists.{allBelow, joinBelow, upTo}
 use Rattle.basics.specs.Basics.{int2StringNoLeadingZero, nat2String, int2String, int64, comma, seqToString}
 use Rattle.basics.specs.Outcome.{refuse, _>>_, mapOutcome}
 use Rattle.basics.specs.Buffer.{overlay, bufferAfter, scratchAfter}
+use Rattle.symbols.proofs.Opened.{opened}
 use Rattle.book.specs.Refusal.{number}
 use Rattle.book.specs.Book.{offset, size, field, entries, letter, nameText}
 use Rattle.book.specs.Program.{nodeAt, pathUp, path, depth, shared}
@@ -29,7 +29,7 @@ use Rattle.rsolver.specs.LevelState.{place, literalPlace, joinAt, forget, count
 use Rattle.rsolver.specs.SolverState.{sameMarker, isIn, with′, newSolver, isTop as isTopItem, pushed, popTo, popped, told, marked, named, missed}
 use Rattle.rsolver.specs.REngine.{withConstants, declareType, declareConstant, declareFunction, declareLiteral, assume, assumeNot, check, askModel, endCheck, declareNewTypes, declareTypeOf, sendAxiom, includeAxiom, declareOperator, declareSymbols, declareAllSymbols, declarePatternSymbols, walk, declareNewSymbols, enter, adjustContext, popTimes, setContext, askGoal, closeGoal}
 use Rattle.rsolver.specs.Trace.{traceLine, traceOf as traceOfPath, printTrace, traceText, traceCall}
-use Rattle.rsolver.specs.Listing.{COMMA, boundVarToString, boundVarsToString, customLiteralToString, quantifierOpening, rexprToString, rexprStrings, patternsToString, rexprListToString, listingLine, printContext, printProofObligation, listingText, listingCall}
+use Rattle.rsolver.specs.Listing.{COMMA, roperatorToString, boundVarToString, boundVarsToString, customLiteralToString, quantifierOpening, rexprToString, rexprStrings, patternsToString, rexprListToString, listingLine, printContext, printProofObligation, listingText, listingCall}
 use Rattle.literals.specs.Search.{namedAt, firstNamed, literalCount, goneThrough, search}
 use Rattle.solvers.specs.Session.{textOf, freshSession, resume, moved, asked, move, ask, closed, isUnsat, replied, giveReply, giveModel}
 use Rattle.solvers.specs.Calls.{owes, goalFits, isSession, reasonOf, fitting, moveCall, askCall, replyCall, modelCall, hostOf, call}
@@ -52,7 +52,7 @@ use Rattle.stack_rule.specs.Bodies.{doIfAccepted, doEvent, doFrom, doAll}
 
 -- the book, and its test
 unfoldable pub testing : Unit {0}
-unfolding same allBelow joinBelow upTo all member refuse _>>_ mapOutcome overlay bufferAfter scratchAfter number offset size field entries letter nameText laidFrom laidOut countFits countsFit within typeLimit entryBelow isRange letterInRange nameInRange typeInRange constantInRange functionInRange axiomInRange patternInRange contextInRange fieldsInRange isZero uses kindInRange termInRange termsInRange entryReference rangeReferences patternReferences listedReferences kindReferences termReferences axiomReferences contextReferences references allSmaller noTwice isForest steps nodeDepth isShallow shallow inRange bookTest ready testedValue bookTestCall kindOf
+unfolding opened allBelow joinBelow upTo refuse _>>_ mapOutcome overlay bufferAfter scratchAfter number offset size field entries letter nameText laidFrom laidOut countFits countsFit within typeLimit entryBelow isRange letterInRange nameInRange typeInRange constantInRange functionInRange axiomInRange patternInRange contextInRange fieldsInRange isZero uses kindInRange termInRange termsInRange entryReference rangeReferences patternReferences listedReferences kindReferences termReferences axiomReferences contextReferences references allSmaller noTwice isForest steps nodeDepth isShallow shallow inRange bookTest ready testedValue bookTestCall kindOf
 testing = tt
 
 -- what a book holds, and how it is printed
@@ -67,7 +67,7 @@ sending = tt
 
 -- what is to be proved, as the fitter reads it
 unfoldable pub listing : Unit {0}
-unfolding COMMA boundVarToString boundVarsToString customLiteralToString quantifierOpening rexprToString rexprStrings patternsToString rexprListToString listingLine printContext printProofObligation listingText listingCall
+unfolding COMMA roperatorToString boundVarToString boundVarsToString customLiteralToString quantifierOpening rexprToString rexprStrings patternsToString rexprListToString listingLine printContext printProofObligation listingText listingCall
 listing = tt
 
 -- the session's calls, lists of events, and the reader of their text

@@ -6,8 +6,8 @@ use Rattle.sexpr_names.proofs.name_to_string.Tie as tie
 put-name-requires : tie.Need-put-name-requires
 put-name-requires c κs = ready-operator (c .before .before .n2 .given .1) (c .before .before .before .before .before .before .pre)
 
-put-name-requires-2 : tie.Need-put-name-requires-2
-put-name-requires-2 c κs = ready-symbol (c .before .before .n3 .given .1) (c .before .before .before .before .before .before .pre)
+put-symbol-requires : tie.Need-put-symbol-requires
+put-symbol-requires c κs = ready-symbol (c .before .before .n3 .given .1) (c .before .before .before .before .before .before .pre)
 
 put-literal-requires : tie.Need-put-literal-requires
 put-literal-requires c κs = ready-literal (c .before .before .n5 .given .1) (c .before .before .before .before .before .before .pre)
@@ -19,7 +19,7 @@ returns-2 : tie.Need-returns-2
 returns-2 c = wrote-operator _ _ (c .before .before .before .before .before .n2 .given .1) (c .before .before .put-name .ensures)
 
 returns-3 : tie.Need-returns-3
-returns-3 c = wrote-symbol _ _ (c .before .before .before .before .before .n3 .given .1) (c .before .before .put-name2 .ensures)
+returns-3 c = wrote-symbol _ _ (c .before .before .before .before .before .n3 .given .1) (c .before .before .put-symbol .ensures)
 
 returns-4 : tie.Need-returns-4
 returns-4 c = wrote-numeral _ _ (c .before .before .before .before .before .n4 .given .1) (c .before .before .put-u64 .ensures)
@@ -39,7 +39,7 @@ name-to-string-spec =
     (λ c. search needs)
     put-name-requires
     (λ c. search needs)
-    put-name-requires-2
+    put-symbol-requires
     (λ c. search needs)
     (λ c κs. search needs)
     (λ c. search needs)
