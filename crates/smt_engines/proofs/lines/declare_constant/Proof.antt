@@ -9,16 +9,16 @@ use Rattle.smt_engines.proofs.lines.declare_constant.Statement.{stateme
 use Rattle.smt_engines.proofs.lines.declare_constant.Tie as tie
 
 put-symbol-requires : tie.Need-put-symbol-requires
-put-symbol-requires c κs = named-constant ($pre .0) ($pre .1)
+put-symbol-requires c κs = named-constant (c .before .before .before .before .before .before .before .before .pre .0) (c .before .before .before .before .before .before .before .before .pre .1)
 
 field-requires : tie.Need-field-requires
-field-requires c κs = reads-constant ($pre .0) 1 (omega arith) ($pre .1)
+field-requires c κs = reads-constant (c .before .before .before .before .before .before .before .before .before .before .before .before .before .before .before .before .pre .0) 1 (omega arith) (c .before .before .before .before .before .before .before .before .before .before .before .before .before .before .before .before .pre .1)
 
 put-type-requires : tie.Need-put-type-requires
-put-type-requires c κs = ($pre .0, rw ($field .ensures .is) ($pre .0 .constant _ ($pre .1) .typ))
+put-type-requires c κs = (c .before .before .before .before .before .before .before .before .before .before .before .before .before .before .before .before .before .before .pre .0, rw (c .before .field .ensures .is) (c .before .before .before .before .before .before .before .before .before .before .before .before .before .before .before .before .before .before .pre .0 .constant _ (c .before .before .before .before .before .before .before .before .before .before .before .before .before .before .before .before .before .before .pre .1) .typ))
 
 returns : tie.Need-returns
-returns c = at-as (constant-line _ _) (at-then ($good .1 .1 .1 .0 .0) (at-then ($good .1 .1 .1 .0 .0) (at-then ($good .1 .1 .1 .0 .0) (at-then ($good .1 .1 .1 .0 .0) ($put-at .ensures) ($put-symbol .ensures)) ($put-at2 .ensures)) (at-as (ap (typeText _) ($field .ensures .is)) ($put-type .ensures))) ($put-at3 .ensures))
+returns c = at-as (constant-line _ _) (at-then (c .before .before .before .before .before .before .before .before .before .before .before .before .before .before .before .before .before .before .before .before .before .before .before .before .before .before .good .1 .1 .1 .0 .0) (at-then (c .before .before .before .before .before .before .before .before .before .before .before .before .before .before .before .before .before .before .before .before .before .before .before .before .before .before .good .1 .1 .1 .0 .0) (at-then (c .before .before .before .before .before .before .before .before .before .before .before .before .before .before .before .before .before .before .before .before .before .before .before .before .before .before .good .1 .1 .1 .0 .0) (at-then (c .before .before .before .before .before .before .before .before .before .before .before .before .before .before .before .before .before .before .before .before .before .before .before .before .before .before .good .1 .1 .1 .0 .0) (c .before .before .before .before .before .before .before .before .before .before .before .before .before .before .before .before .before .before .before .before .before .put-at .ensures) (c .before .before .before .before .before .before .before .before .before .before .before .before .before .before .before .before .before .put-symbol .ensures)) (c .before .before .before .before .before .before .before .before .before .before .before .before .put-at2 .ensures)) (at-as (ap (typeText _) (c .before .before .before .before .before .before .before .before .before .field .ensures .is)) (c .before .before .before .before .before .before .before .put-type .ensures))) (c .before .before .put-at3 .ensures))
 
 pub declare-constant-spec : {M : Type 1} → statement M
 declare-constant-spec =

@@ -5,13 +5,13 @@ use Rattle.smt_engines.proofs.parts.put_symbol.Statement.{statement}
 use Rattle.smt_engines.proofs.parts.put_symbol.Tie as tie
 
 field-requires : tie.Need-field-requires
-field-requires c κs = ($pre .known, $pre .holds)
+field-requires c κs = (c .before .before .pre .known, c .before .before .pre .holds)
 
 put-symbol-requires : tie.Need-put-symbol-requires
-put-symbol-requires c κs = name-here ($pre) ($field .ensures .is)
+put-symbol-requires c κs = name-here _ (c .before .before .before .before .before .pre) (c .before .before .field .ensures .is)
 
 returns : tie.Need-returns
-returns c = at-as (symbol-part _ ($field .ensures .is)) (at-part ($clip .ensures) ($put-symbol .ensures) ($sum .ensures))
+returns c = at-as (symbol-part _ (c .before .before .before .before .before .before .field .ensures .is)) (at-part (c .before .before .before .before .before .clip .ensures) (c .before .before .before .put-symbol .ensures) (c .sum .ensures))
 
 pub put-symbol-spec : {M : Type 1} → statement M
 put-symbol-spec =
