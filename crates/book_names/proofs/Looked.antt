@@ -22,11 +22,11 @@ literal-plain l h e =
     let r = and-both (not (hasBar (l .s))) (plainType (l .typ)) (or-second (isTag l) (not (hasBar (l .s)) && plainType (l .typ)) h e) in
     (not-true (hasBar (l .s)) (r .0), r .1)
 
-module _ {b : Book} where
+module _ (b : Book) where
   -- ---- what the readers ask
   module _ (L : AllLaid b) (S : Spelled b) where
     pub reads-name : (n : ℕ) → n < size b names → Laid b letters × Holds b names n 1 × (field b names n 0 + field b names n 1 ≤ size b letters)
-    reads-name n h = (L .letters-laid, record { laid = L .names-laid; here = h; within = omega arith }, S .letters n h)
+    reads-name n h = (L .letters-laid, record { laid = L .names-laid; here = h; within = omega arith }, S .name n h)
 
     pub types-first : NamedFirst b 2
     types-first = record { known = omega arith; listed = L .types-laid .contents; laid = L .types-laid; wide = omega arith; named = S .typ }
@@ -50,7 +50,7 @@ module _ {b : Book} where
   user-plain (suc zero) h e = absurd (omega arith)
   user-plain (suc (suc k)) h e = let q : suc (suc k) - 2 ≡ k = omega arith in rw (e, q)
 
-  module _ {t : ℕ} where
+  module _ (t : ℕ) where
     -- ---- a literal, whose text is s
     module _ {s : Text} (text : s ≡ nameText b (field b terms t 1)) {tag : Bool} (asked : tag ≡ same s (ascii "%tag")) where
       pub tag-named : tag ≡ true → true ≡ literalNamed (literalOf b t)

@@ -6,7 +6,7 @@ use Rattle.book.specs.Book.{Book, letters, names, types, constants, functions, 
 use Rattle.book.specs.Laid.{sectionAt, Laid}
 
 pub record Spelled (b : Book) : Type 0 where
-  pub letters : (n : ℕ) → n < size b names → field b names n 0 + field b names n 1 ≤ size b letters
+  pub name : (n : ℕ) → n < size b names → field b names n 0 + field b names n 1 ≤ size b letters
   pub typ : (k : ℕ) → k < size b types → field b types k 0 < size b names
   pub constant : (k : ℕ) → k < size b constants → field b constants k 0 < size b names
   pub function : (k : ℕ) → k < size b functions → field b functions k 0 < size b names

@@ -15,6 +15,7 @@ use Rattle.book_fields.specs.Fields.{fieldsInRange}
 use Rattle.book_terms.specs.Terms.{termsInRange}
 use Rattle.book_forest.specs.Forest.{isForest}
 use Rattle.book_depth.specs.Depth.{shallow}
+use Rattle.book_names.specs.Names.{namesGood}
 use Rattle.book_test.specs.BookTest.{inRange, bookTest, ready}
 
 -- the scratch afterwards
@@ -67,10 +68,16 @@ module _ (b : Book) where
           unfolding bookTest refuse _>>_
           refused-5 h = rw (← ready-long, laid, counts, ranges, h)
 
-          pub refused-6 : isForest b ≡ true → shallow b ≡ false → refused 6 ≡ ready n b
-          unfolding bookTest refuse _>>_
-          refused-6 h k = rw (← ready-long, laid, counts, ranges, h, k)
+          module _ (forest : isForest b ≡ true) where
+            pub refused-6 : shallow b ≡ false → refused 6 ≡ ready n b
+            unfolding bookTest refuse _>>_
+            refused-6 h = rw (← ready-long, laid, counts, ranges, forest, h)
 
-          pub accepted-all : isForest b ≡ true → shallow b ≡ true → accepted tt ≡ ready n b
-          unfolding bookTest refuse _>>_
-          accepted-all h k = rw (← ready-long, laid, counts, ranges, h, k)
+            module _ (depth : shallow b ≡ true) where
+              pub refused-28 : namesGood b ≡ false → refused 28 ≡ ready n b
+              unfolding bookTest refuse _>>_
+              refused-28 h = rw (← ready-long, laid, counts, ranges, forest, depth, h)
+
+              pub accepted-all : namesGood b ≡ true → accepted tt ≡ ready n b
+              unfolding bookTest refuse _>>_
+              accepted-all h = rw (← ready-long, laid, counts, ranges, forest, depth, h)
