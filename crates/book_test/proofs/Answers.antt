@@ -1,12 +1,11 @@
 -- The first refusal that holds is the answer.
 use Prim.Native.Nat.{ℕ, _<_, _≤_}
-use mathlib.Core.Path.{_≡_, refl}
-use mathlib.Core.Bool.{Bool, true, false, not, _&&_}
+use mathlib.Core.Path.{_≡_}
+use mathlib.Core.Bool.{true, false}
 use mathlib.Core.List.{List}
-use lib.Dec.{ltb}
 use lib.ListN.{length, replicate}
 use borrow.Author.Tests.{lt-ltb, le-ltb}
-use Rattle.basics.specs.Outcome.{Outcome, refused, accepted, refuse, _>>_}
+use Rattle.basics.specs.Outcome.{refused, accepted, refuse, _>>_}
 use Rattle.basics.specs.Buffer.{scratchLeast, scratchAfter}
 use Rattle.basics.proofs.Bool.{both-and, and-false}
 use Rattle.book.specs.Book.{Book}

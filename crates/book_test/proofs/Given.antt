@@ -1,5 +1,5 @@
 -- What refusal 4 gives to the tests for 5, 6 and 28.
-use Prim.Native.Nat.{ℕ, _<_}
+use Prim.Native.Nat.{ℕ}
 use mathlib.Core.Path.{_≡_}
 use mathlib.Core.Bool.{true, _&&_}
 use lib.Dec.{ltb}
@@ -9,7 +9,7 @@ use Rattle.book.specs.Book.{Book, names, constants, functions, patterns, terms,
 use Rattle.book.specs.Decode.{builtIn, application, quantifierExpr, kinds, kindOf}
 use Rattle.book_fields.specs.Fields.{within, isRange}
 use Rattle.book_terms.specs.Terms.{uses, kindInRange, termInRange}
-use Rattle.book_forest.specs.Followed.{ListsPatterns, Followed}
+use Rattle.book_forest.specs.Followed.{Followed}
 use Rattle.book_depth.specs.Rooted.{Rooted}
 use Rattle.book_names.specs.Spelled.{Spelled}
 use Rattle.book_test.specs.BookTest.{inRange}
