@@ -8,9 +8,8 @@ use Rattle.basics.specs.Lists.{all, allBelow}
 use Rattle.basics.proofs.Loops.{all-none, all-more, all-stop, all-done, all-places}
 use Rattle.book.specs.Book.{Book, terms, size, field}
 use Rattle.book.specs.Decode.{literalOf, literalAt, program}
-use Rattle.book.proofs.Terms.{literals-length, literal-at}
+use Rattle.book.proofs.Terms.{literals-length, literal-at, literal-kind, other-kind}
 use Rattle.book.specs.RExpr.{isTag}
-use Rattle.literals.proofs.Looking.{literal-kind, other-kind}
 use Rattle.audit.specs.Audit.{hasNoTag}
 
 module _ (b : Book) where

@@ -3,7 +3,7 @@ use Prim.Native.Nat.{ℕ, zero, suc, _-_, _≤_, _<_}
 use native.Mathlib.Omega.{arith}
 use native.Mathlib.Decide.{decLt}
 use mathlib.Core.Path.{_≡_, refl, _∙_}
-use mathlib.Core.Option.{none}
+use mathlib.Core.Option.{none, some}
 use mathlib.Core.List.{[], _∷_}
 use mathlib.Core.Bool.{true, false}
 use lib.ListN.{length, getD, length-append, List·getD-append, List·getD-eq-default}
@@ -11,8 +11,8 @@ use lib.Seq.{getD-at}
 use Rattle.basics.proofs.Counting.{up-at, length-up}
 use Rattle.book.specs.RExpr.{Boolean}
 use Rattle.book.specs.Program.{axiomAt, nodeAt}
-use Rattle.book.specs.Book.{Book, axioms, terms, contexts, size}
-use Rattle.book.specs.Decode.{termOver, firstTerms, term, literalAt, axiomOf, contextOf, program}
+use Rattle.book.specs.Book.{Book, axioms, terms, contexts, size, field}
+use Rattle.book.specs.Decode.{customLiteral, kindOf, literalOf, termOver, firstTerms, term, literalBy, literalAt, axiomOf, contextOf, program}
 
 module _ (b : Book) where
   first-length : (n : ℕ) → length (firstTerms b n) ≡ n
@@ -63,3 +63,25 @@ module _ (b : Book) where
   pub node-behind : (k : ℕ) → size b contexts ≤ k → nodeAt (program b) (suc k) ≡ record { parent = 0; expr = Boolean true; traceString = none }
   unfolding nodeAt
   node-behind k h = List·getD-eq-default (program b .contexts) _ (omega (arith, contexts-length))
+
+  -- ---- whether a term is a literal
+  pub literal-here : (t : ℕ) → kindOf (field b terms t 0) ≡ customLiteral → literalAt b t ≡ some (literalOf b t)
+  unfolding literalAt literalBy
+  literal-here t e = rw e
+
+  pub literal-kind : (t : ℕ) → field b terms t 0 ≡ 2 → literalAt b t ≡ some (literalOf b t)
+  unfolding kindOf
+  literal-kind t e = literal-here t (rw e)
+
+  pub other-kind : (n t : ℕ) → (n ≡ 2 → ⊥) → literalBy b (kindOf n) t ≡ none
+  unfolding literalBy kindOf
+  other-kind zero t h = refl
+  other-kind (suc zero) t h = refl
+  other-kind (suc (suc zero)) t h = absurd (h refl)
+  other-kind (suc (suc (suc zero))) t h = refl
+  other-kind (suc (suc (suc (suc zero)))) t h = refl
+  other-kind (suc (suc (suc (suc (suc zero))))) t h = refl
+  other-kind (suc (suc (suc (suc (suc (suc zero)))))) t h = refl
+  other-kind (suc (suc (suc (suc (suc (suc (suc zero))))))) t h = refl
+  other-kind (suc (suc (suc (suc (suc (suc (suc (suc zero)))))))) t h = refl
+  other-kind (suc (suc (suc (suc (suc (suc (suc (suc (suc n))))))))) t h = refl

@@ -1,12 +1,11 @@
 -- The first refusal that holds is the answer.
 use Prim.Native.Nat.{ℕ, _<_, _≤_}
-use mathlib.Core.Path.{_≡_, refl}
-use mathlib.Core.Bool.{Bool, true, false, not, _&&_}
+use mathlib.Core.Path.{_≡_}
+use mathlib.Core.Bool.{true, false}
 use mathlib.Core.List.{List}
-use lib.Dec.{ltb}
 use lib.ListN.{length, replicate}
 use borrow.Author.Tests.{lt-ltb, le-ltb}
-use Rattle.basics.specs.Outcome.{Outcome, refused, accepted, refuse, _>>_}
+use Rattle.basics.specs.Outcome.{refused, accepted, refuse, _>>_}
 use Rattle.basics.specs.Buffer.{scratchLeast, scratchAfter}
 use Rattle.basics.proofs.Bool.{both-and, and-false}
 use Rattle.book.specs.Book.{Book}
@@ -15,6 +14,7 @@ use Rattle.book_fields.specs.Fields.{fieldsInRange}
 use Rattle.book_terms.specs.Terms.{termsInRange}
 use Rattle.book_forest.specs.Forest.{isForest}
 use Rattle.book_depth.specs.Depth.{shallow}
+use Rattle.book_names.specs.Names.{namesGood}
 use Rattle.book_test.specs.BookTest.{inRange, bookTest, ready}
 
 -- the scratch afterwards
@@ -67,10 +67,16 @@ module _ (b : Book) where
           unfolding bookTest refuse _>>_
           refused-5 h = rw (← ready-long, laid, counts, ranges, h)
 
-          pub refused-6 : isForest b ≡ true → shallow b ≡ false → refused 6 ≡ ready n b
-          unfolding bookTest refuse _>>_
-          refused-6 h k = rw (← ready-long, laid, counts, ranges, h, k)
+          module _ (forest : isForest b ≡ true) where
+            pub refused-6 : shallow b ≡ false → refused 6 ≡ ready n b
+            unfolding bookTest refuse _>>_
+            refused-6 h = rw (← ready-long, laid, counts, ranges, forest, h)
 
-          pub accepted-all : isForest b ≡ true → shallow b ≡ true → accepted tt ≡ ready n b
-          unfolding bookTest refuse _>>_
-          accepted-all h k = rw (← ready-long, laid, counts, ranges, h, k)
+            module _ (depth : shallow b ≡ true) where
+              pub refused-28 : namesGood b ≡ false → refused 28 ≡ ready n b
+              unfolding bookTest refuse _>>_
+              refused-28 h = rw (← ready-long, laid, counts, ranges, forest, depth, h)
+
+              pub accepted-all : namesGood b ≡ true → accepted tt ≡ ready n b
+              unfolding bookTest refuse _>>_
+              accepted-all h = rw (← ready-long, laid, counts, ranges, forest, depth, h)

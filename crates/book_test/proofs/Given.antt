@@ -1,5 +1,5 @@
--- What refusal 4 gives to the tests for 5 and 6.
-use Prim.Native.Nat.{ℕ, _<_}
+-- What refusal 4 gives to the tests for 5, 6 and 28.
+use Prim.Native.Nat.{ℕ}
 use mathlib.Core.Path.{_≡_}
 use mathlib.Core.Bool.{true, _&&_}
 use lib.Dec.{ltb}
@@ -9,10 +9,12 @@ use Rattle.book.specs.Book.{Book, names, constants, functions, patterns, terms,
 use Rattle.book.specs.Decode.{builtIn, application, quantifierExpr, kinds, kindOf}
 use Rattle.book_fields.specs.Fields.{within, isRange}
 use Rattle.book_terms.specs.Terms.{uses, kindInRange, termInRange}
-use Rattle.book_forest.specs.Followed.{ListsPatterns, Followed}
+use Rattle.book_forest.specs.Followed.{Followed}
 use Rattle.book_depth.specs.Rooted.{Rooted}
+use Rattle.book_names.specs.Spelled.{Spelled}
 use Rattle.book_test.specs.BookTest.{inRange}
-use Rattle.book_test.proofs.Ranges.{tests, range, pattern-good, context-good}
+use Rattle.book_test.specs.Promise.{GoodLiteral}
+use Rattle.book_test.proofs.Ranges.{tests, literal-range, range, name-good, type-good, constant-good, function-good, pattern-good, context-good}
 
 module _ (b : Book) where
   by-kind : (t k : ℕ) → termInRange b t ≡ true → field b terms t 0 ≡ k → kindInRange b (kindOf k) t ≡ true
@@ -54,3 +56,19 @@ module _ (b : Book) where
 
   pub rooted : inRange b ≡ true → Rooted b
   rooted h = record { parent = λ k l. context-good b k (tests b h .context k l) .parent }
+
+  literal-fields : (t : ℕ) → termInRange b t ≡ true → field b terms t 0 ≡ 2 → GoodLiteral b t
+  unfolding kindOf
+  literal-fields t h e = literal-range b t (by-kind t 2 h e)
+
+  pub spelled : inRange b ≡ true → Spelled b
+  spelled h =
+      let R = tests b h in
+      record {
+        name = λ n l. name-good b n (R .name n l) .ends;
+        typ = λ k l. type-good b k (R .typ k l);
+        constant = λ k l. constant-good b k (R .constant k l) .name;
+        function = λ k l. function-good b k (R .function k l) .name;
+        literal = λ t l e. literal-fields t (R .term t l) e .name;
+        literal-type = λ t l e. literal-fields t (R .term t l) e .typ;
+      }

@@ -4,6 +4,7 @@ pub mod Contents
 pub mod Ranges
 pub mod Forest
 pub mod Depth
+pub mod Symbols
 pub mod Promise
 pub mod Given
 pub mod Answers
@@ -16,3 +17,4 @@ pub mod Names
 pub mod KeptRecords
 pub mod KeptTerms
 pub mod KeptProgram
+pub mod SymbolsHold

@@ -11,6 +11,7 @@ use Rattle.book.specs.Book.{Book}
 use Rattle.book_contents.specs.Contents.{laidOut, countsFit}
 use Rattle.book_forest.specs.Forest.{isForest}
 use Rattle.book_depth.specs.Depth.{shallow}
+use Rattle.book_names.specs.Names.{namesGood}
 use Rattle.book_test.specs.BookTest.{inRange, bookTest, ready}
 
 pub passed : {A : Type 0} {a : A} (k : ℕ) (x : Bool) (rest : Outcome A) → (refuse k x >> rest) ≡ accepted a → (x ≡ false) × (rest ≡ accepted a)
@@ -37,6 +38,7 @@ pub record Passed (b : Book) : Type 0 where
   pub ranges : inRange b ≡ true
   pub forest : isForest b ≡ true
   pub depth : shallow b ≡ true
+  pub names : namesGood b ≡ true
 
 pub test-passed : (b : Book) → bookTest b ≡ accepted tt → Passed b
 unfolding bookTest
@@ -46,7 +48,8 @@ test-passed b e =
     let r4 = held 4 (inRange b) _ (r3 .1) in
     let r5 = held 5 (isForest b) _ (r4 .1) in
     let r6 = held 6 (shallow b) _ (r5 .1) in
-    record { laid = r2 .0; counts = r3 .0; ranges = r4 .0; forest = r5 .0; depth = r6 .0 }
+    let r28 = held 28 (namesGood b) _ (r6 .1) in
+    record { laid = r2 .0; counts = r3 .0; ranges = r4 .0; forest = r5 .0; depth = r6 .0; names = r28 .0 }
 
 pub ready-passed : (n : ℕ) (b : Book) → ready n b ≡ accepted tt → (scratchLeast ≤ n) × (bookTest b ≡ accepted tt)
 unfolding ready

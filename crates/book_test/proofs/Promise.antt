@@ -1,6 +1,5 @@
 -- The theorem: a book that the test accepts has the promise.
 use Prim.Native.Nat.{ℕ, _+_, _<_}
-use native.Mathlib.Omega.{arith}
 use mathlib.Core.Path.{_≡_}
 use mathlib.Core.Bool.{true}
 use lib.Dec.{ltb}
@@ -9,17 +8,18 @@ use borrow.Author.Tests.{ltb-true}
 use Rattle.basics.specs.Lists.{joinBelow}
 use Rattle.basics.specs.Outcome.{accepted}
 use Rattle.basics.proofs.Bool.{and-both}
-use Rattle.basics.proofs.All.{All, all-split, all-head, all-tail, all-at}
-use Rattle.book.specs.Book.{Book, letters, names, constants, functions, patterns, terms, contexts, lists, size, field}
+use Rattle.basics.proofs.All.{All, all-split, all-head, all-tail}
+use Rattle.book.specs.Book.{Book, names, types, constants, functions, patterns, terms, contexts, lists, size, field}
 use Rattle.book.specs.Decode.{Kind, boolean, integer, customLiteral, id, builtIn, application, ifThenElse, letExpr, quantifierExpr, kinds, kindOf}
-use Rattle.book_fields.specs.Fields.{within, typeLimit, isRange}
+use Rattle.book_fields.specs.Fields.{within, isRange}
 use Rattle.book_terms.specs.Terms.{uses, kindInRange, termInRange}
 use Rattle.book_forest.specs.Forest.{rangeReferences, patternReferences, listedReferences, kindReferences, termReferences}
 use Rattle.book_test.specs.BookTest.{bookTest}
 use Rattle.book_test.specs.Promise.{Range, GoodPattern, GoodPatterns, GoodKind, GoodTerm, GoodContext, Promise}
 use Rattle.book_test.proofs.Outcomes.{test-passed}
 use Rattle.book_test.proofs.Contents.{all-laid}
-use Rattle.book_test.proofs.Ranges.{tests, in-section, range, letter-range, name-good, type-good, constant-good, function-good, axiom-good, pattern-good, context-good}
+use Rattle.book_test.proofs.Symbols.{record-tested, literal-tested, each-tested}
+use Rattle.book_test.proofs.Ranges.{tests, in-section, range, letter-range, name-good, type-good, constant-good, function-good, axiom-good, pattern-good, literal-range, context-good}
 use Rattle.book_test.proofs.Forest.{Smaller, children-smaller, entry-smaller, listed-smaller}
 use Rattle.book_test.proofs.Depth.{depth-most}
 
@@ -42,13 +42,10 @@ module _ (b : Book) (pattern : (p : ℕ) → p < size b patterns → GoodPattern
       }
 
   kind-good : (k : Kind) (t : ℕ) → kindInRange b k t ≡ true → All Smaller (kindReferences b k t) → GoodKind k b t
-  unfolding kindInRange kindReferences GoodKind typeLimit
+  unfolding kindInRange kindReferences GoodKind
   kind-good boolean t h s = ltb-true (field b terms t 1) 2 (and-both (ltb (field b terms t 1) 2) (uses b t 1) h .0)
   kind-good integer t h s = tt
-  kind-good customLiteral t h s =
-      let r2 = and-both _ _ h in
-      let r1 = and-both _ _ (r2 .0) in
-      record { name = in-section b names (field b terms t 1) (r1 .0); typ = ltb-true (field b terms t 2) (typeLimit b) (r1 .1) }
+  kind-good customLiteral t h s = literal-range b t h
   kind-good id t h s = in-section b constants (field b terms t 1) (and-both _ _ h .0)
   kind-good builtIn t h s =
       let r2 = and-both _ _ h in
@@ -86,6 +83,7 @@ promise b accepts =
     let T = test-passed b accepts in
     let L = all-laid b (T .laid) (T .counts) in
     let R = tests b (T .ranges) in
+    let N = each-tested b (T .names) in
     let patterns-are : (p : ℕ) → p < size b patterns → GoodPattern b (size b terms) p = λ p l. pattern-good b p l (R .pattern p l) in
     let contexts-are : (k : ℕ) → k < size b contexts → GoodContext b k = λ k l. context-good b k (R .context k l) in
     record {
@@ -110,4 +108,8 @@ promise b accepts =
       term = λ t l. term-good b patterns-are t (R .term t l) (children-smaller b (T .forest) t l);
       context = contexts-are;
       shallow = depth-most b (λ k l. contexts-are k l .parent) (T .depth);
+      type-named = record-tested b types (N .0);
+      constant-named = record-tested b constants (N .1);
+      function-named = record-tested b functions (N .2);
+      literal-named = literal-tested b (N .3);
     }

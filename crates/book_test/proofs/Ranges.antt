@@ -8,10 +8,11 @@ use Rattle.basics.specs.Lists.{allBelow}
 use Rattle.basics.proofs.Bool.{and-both, or-second}
 use Rattle.basics.proofs.Counting.{below-each}
 use Rattle.book.specs.Book.{Book, Section, letters, names, types, constants, functions, axioms, patterns, terms, contexts, lists, size, field, letter, noTerm}
+use Rattle.book.specs.Decode.{customLiteral}
 use Rattle.book_fields.specs.Fields.{within, typeLimit, entryBelow, isRange, letterInRange, nameInRange, typeInRange, constantInRange, functionInRange, axiomInRange, patternInRange, contextInRange, fieldsInRange}
-use Rattle.book_terms.specs.Terms.{termInRange, termsInRange}
+use Rattle.book_terms.specs.Terms.{kindInRange, termInRange, termsInRange}
 use Rattle.book_test.specs.BookTest.{inRange}
-use Rattle.book_test.specs.Promise.{Range, GoodName, GoodConstant, GoodFunction, GoodAxiom, GoodContext, GoodPattern}
+use Rattle.book_test.specs.Promise.{Range, GoodName, GoodConstant, GoodFunction, GoodAxiom, GoodContext, GoodPattern, GoodLiteral}
 
 module _ (b : Book) where
   pub record Tests : Type 0 where
@@ -105,6 +106,13 @@ module _ (b : Book) where
   pub pattern-good : (p : ℕ) → p < size b patterns → patternInRange b p ≡ true → GoodPattern b (size b terms) p
   unfolding patternInRange
   pattern-good p l h = record { here = l; range = range (size b terms) (field b patterns p 0) (field b patterns p 1) h }
+
+  pub literal-range : (t : ℕ) → kindInRange b customLiteral t ≡ true → GoodLiteral b t
+  unfolding kindInRange typeLimit
+  literal-range t h =
+      let r2 = and-both _ _ h in
+      let r1 = and-both _ _ (r2 .0) in
+      record { name = in-section names (field b terms t 1) (r1 .0); typ = ltb-true (field b terms t 2) (typeLimit b) (r1 .1) }
 
   pub context-good : (k : ℕ) → contextInRange b k ≡ true → GoodContext b k
   unfolding contextInRange

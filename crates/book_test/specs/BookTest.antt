@@ -1,4 +1,4 @@
--- The book test: the first of the refusals 1 to 6 that holds, each decided for the whole book before the next.
+-- The book test: the first of the refusals 1 to 6 and 28 that holds, each decided for the whole book before the next.
 use Prim.Native.Nat.{ℕ}
 use mathlib.Core.Bool.{Bool, not, _&&_}
 use mathlib.Core.List.{List}
@@ -13,6 +13,7 @@ use Rattle.book_fields.specs.Fields.{fieldsInRange}
 use Rattle.book_terms.specs.Terms.{termsInRange}
 use Rattle.book_forest.specs.Forest.{isForest}
 use Rattle.book_depth.specs.Depth.{shallow}
+use Rattle.book_names.specs.Names.{namesGood}
 use Rattle.book_test.specs.declared.Tested.{Tested}
 use Rattle.book_test.specs.declared.Tested.the-variants.{Good, Refused}
 
@@ -26,6 +27,7 @@ bookTest b = do
   refuse 4 (not (inRange b))
   refuse 5 (not (isForest b))
   refuse 6 (not (shallow b))
+  refuse 28 (not (namesGood b))
   accepted tt
 
 -- what every call that takes a book asks first; `scratch` is the scratch buffer's length

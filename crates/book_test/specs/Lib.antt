@@ -2,3 +2,4 @@ pub mod BookTest
 pub mod Scratch
 pub mod Promise
 pub mod Kept
+pub mod SymbolsHold

@@ -1,12 +1,15 @@
 -- The promise: what a book that the test accepts has. Every crate above relies on this, and on nothing else of the test.
 use Prim.Native.Nat.{ℕ, suc, _+_, _<_, _≤_}
 use mathlib.Core.Path.{_≡_}
+use mathlib.Core.Bool.{true}
 use mathlib.Core.List.{List}
 use lib.ListN.{length}
-use Rattle.book.specs.Book.{Book, letters, names, types, constants, functions, axioms, patterns, terms, contexts, lists, size, field, letter, userTypes, noTerm, depthMost}
+use Rattle.book.specs.Book.{Book, letters, names, types, constants, functions, axioms, patterns, terms, contexts, lists, size, field, letter, nameText, userTypes, noTerm, depthMost}
 use Rattle.book.specs.Laid.{Laid}
 use Rattle.book.specs.Program.{depth}
-use Rattle.book.specs.Decode.{Kind, boolean, integer, customLiteral, id, builtIn, application, ifThenElse, letExpr, quantifierExpr, kinds, kindOf, program}
+use Rattle.book.specs.Decode.{Kind, boolean, integer, customLiteral, id, builtIn, application, ifThenElse, letExpr, quantifierExpr, kinds, kindOf, literalOf, program}
+use Rattle.symbols.specs.Symbols.{isName}
+use Rattle.book_names.specs.Names.{literalNamed}
 
 -- a range of lists whose entries are below a limit
 pub record Range (b : Book) (limit start count : ℕ) : Type 0 where
@@ -109,3 +112,7 @@ pub record Promise (b : Book) : Type 0 where
   pub term : (t : ℕ) → t < size b terms → GoodTerm b t
   pub context : (k : ℕ) → k < size b contexts → GoodContext b k
   pub shallow : (k : ℕ) → k < size b contexts → depth (program b) (suc k) ≤ depthMost
+  pub type-named : (k : ℕ) → k < size b types → isName (nameText b (field b types k 0)) ≡ true
+  pub constant-named : (k : ℕ) → k < size b constants → isName (nameText b (field b constants k 0)) ≡ true
+  pub function-named : (k : ℕ) → k < size b functions → isName (nameText b (field b functions k 0)) ≡ true
+  pub literal-named : (t : ℕ) → t < size b terms → kindOf (field b terms t 0) ≡ customLiteral → literalNamed (literalOf b t) ≡ true

@@ -1,4 +1,4 @@
-// The test of a book: refusals 1 to 6, each of 2 to 6 decided for the whole book before the next.
+// The test of a book: refusals 1 to 6 and 28, each but 1 decided for the whole book before the next.
 ghost use mathlib.Core.Path.{_≡_};
 ghost use Rattle.book_test.specs.BookTest.{testedValue, bookTestCall};
 use basics::SCRATCH_LEAST;
@@ -8,6 +8,7 @@ use book_contents::laid_out;
 use book_depth::shallow;
 use book_forest::clear;
 use book_forest::is_forest;
+use book_names::names_good;
 use book_records::fields_in_range;
 use book_terms::terms_in_range;
 
@@ -42,6 +43,9 @@ pub fn book_test(book: &[u8], scratch: &mut [u8]) -> Tested
     }
     if !shallow(book) {
         return Tested::Refused(Refusal::TooDeep);
+    }
+    if !names_good(book) {
+        return Tested::Refused(Refusal::BadName);
     }
     Tested::Good
 }

@@ -1,6 +1,6 @@
 use borrow.Author.Needs.{needs}
-use Rattle.book_test.proofs.Answers.{untouched, zeroed, fields-fail, terms-fail, range-pass, refused-1, refused-2, refused-3, refused-4, refused-5, refused-6, accepted-all}
-use Rattle.book_test.proofs.Given.{followed, rooted}
+use Rattle.book_test.proofs.Answers.{untouched, zeroed, fields-fail, terms-fail, range-pass, refused-1, refused-2, refused-3, refused-4, refused-5, refused-6, refused-28, accepted-all}
+use Rattle.book_test.proofs.Given.{followed, rooted, spelled}
 use Rattle.book_test.proofs.Contents.{contents-stand, all-laid}
 use Rattle.book_test.specs.BookTest.{testedValue, bookTestCall}
 use Rattle.book_forest.proofs.Stored.{room-enough}
@@ -13,28 +13,10 @@ use native.Mathlib.Omega.{arith}
 use Prim.Native.Nat.{ℕ}
 use Rattle.book_test.proofs.book_test.Statement.{statement}
 use Rattle.book_test.proofs.book_test.Tie as tie
-use Rattle.book_test.proofs.book_test.Reads as reads
-use Rattle.book_test.proofs.book_test.Lts as lts
-use Rattle.book_contents.proofs.counts_fit.Reads as counts-fit-reads
-use Rattle.book_contents.proofs.laid_out.Reads as laid-out-reads
-use Rattle.book_depth.proofs.shallow.Reads as shallow-reads
-use Rattle.book_forest.proofs.clear.Reads as clear-reads
-use Rattle.book_forest.proofs.is_forest.Reads as is-forest-reads
-use Rattle.book_records.proofs.fields_in_range.Reads as fields-in-range-reads
-use Rattle.book_terms.proofs.terms_in_range.Reads as terms-in-range-reads
 
 returns : tie.Need-returns
 unfolding testedValue number bookTestCall
 returns c = (refused-1 (c .before .before .before .args .book .now) (length (c .before .before .before .args .scratch .now)) (c .if1 .taken), untouched (c .before .before .before .args .scratch .now) (c .if1 .taken))
-
-clear-requires : tie.Need-clear-requires
-clear-requires c κs = search needs
-
-laid-out-requires : tie.Need-laid-out-requires
-laid-out-requires c κs = search needs
-
-same-length : tie.Need-same-length
-same-length c = search needs
 
 returns-2 : tie.Need-returns-2
 unfolding testedValue number bookTestCall
@@ -43,9 +25,6 @@ returns-2 c = (refused-2 (c .before .before .before .before .before .before .bef
 counts-fit-requires : tie.Need-counts-fit-requires
 counts-fit-requires c κs = contents-stand _ (passed (c .before .laid-out .ensures) (c .if2 .left))
 
-same-length-2 : tie.Need-same-length-2
-same-length-2 c = search needs
-
 returns-3 : tie.Need-returns-3
 unfolding testedValue number bookTestCall
 returns-3 c = (refused-3 (c .before .before .before .before .before .before .before .before .before .before .before .args .book .now) (length (c .before .before .before .before .before .before .before .before .before .before .before .args .scratch .now)) (c .before .before .before .before .before .before .before .before .if1 .left) (passed (c .before .before .before .laid-out .ensures) (c .before .before .if2 .left)) (failed (c .before .counts-fit .ensures) (c .if3 .taken)), c .before .before .before .before .before .before .clear .ensures ∙ zeroed (c .before .before .before .before .before .before .before .before .before .before .before .args .scratch .now) (c .before .before .before .before .before .before .before .before .if1 .left))
@@ -53,18 +32,12 @@ returns-3 c = (refused-3 (c .before .before .before .before .before .before .bef
 fields-in-range-requires : tie.Need-fields-in-range-requires
 fields-in-range-requires c κs = all-laid _ (passed (c .before .before .before .laid-out .ensures) (c .before .before .if2 .left)) (passed (c .before .counts-fit .ensures) (c .if3 .left))
 
-same-length-3 : tie.Need-same-length-3
-same-length-3 c = search needs
-
 returns-4 : tie.Need-returns-4
 unfolding testedValue number bookTestCall
 returns-4 c = (refused-4 (c .before .before .before .before .before .before .before .before .before .before .before .before .before .args .book .now) (length (c .before .before .before .before .before .before .before .before .before .before .before .before .before .args .scratch .now)) (c .before .before .before .before .before .before .before .before .before .before .if1 .left) (passed (c .before .before .before .before .before .laid-out .ensures) (c .before .before .before .before .if2 .left)) (passed (c .before .before .before .counts-fit .ensures) (c .before .before .if3 .left)) (fields-fail _ (failed (c .before .fields-in-range .ensures) (c .if4 .taken))), c .before .before .before .before .before .before .before .before .clear .ensures ∙ zeroed (c .before .before .before .before .before .before .before .before .before .before .before .before .before .args .scratch .now) (c .before .before .before .before .before .before .before .before .before .before .if1 .left))
 
 terms-in-range-requires : tie.Need-terms-in-range-requires
 terms-in-range-requires c κs = all-laid _ (passed (c .before .before .before .before .before .laid-out .ensures) (c .before .before .before .before .if2 .left)) (passed (c .before .before .before .counts-fit .ensures) (c .before .before .if3 .left))
-
-same-length-4 : tie.Need-same-length-4
-same-length-4 c = search needs
 
 returns-5 : tie.Need-returns-5
 unfolding testedValue number bookTestCall
@@ -79,9 +52,6 @@ is-forest-requires c κs =
       c .before .before .before .before .before .before .before .before .before .before .before .clear .ensures ∙ ap (λ (n : ℕ). replicate n 0) (sym (c .before .before .before .before .before .before .before .before .before .before .before .clear .kept .0)),
     )
 
-same-length-5 : tie.Need-same-length-5
-same-length-5 c = search needs
-
 returns-6 : tie.Need-returns-6
 unfolding testedValue number bookTestCall
 returns-6 c = (refused-5 (c .before .before .before .before .before .before .before .before .before .before .before .before .before .before .before .before .before .before .before .before .args .book .now) (length (c .before .before .before .before .before .before .before .before .before .before .before .before .before .before .before .before .before .before .before .before .args .scratch .now)) (c .before .before .before .before .before .before .before .before .before .before .before .before .before .before .before .before .before .if1 .left) (passed (c .before .before .before .before .before .before .before .before .before .before .before .before .laid-out .ensures) (c .before .before .before .before .before .before .before .before .before .before .before .if2 .left)) (passed (c .before .before .before .before .before .before .before .before .before .before .counts-fit .ensures) (c .before .before .before .before .before .before .before .before .before .if3 .left)) (range-pass _ (passed (c .before .before .before .before .before .before .before .before .fields-in-range .ensures) (c .before .before .before .before .before .before .before .if4 .left)) (passed (c .before .before .before .before .before .before .terms-in-range .ensures) (c .before .before .before .before .before .if5 .left))) (failed (c .before .before .before .is-forest .ensures .0) (c .if6 .taken)), c .before .before .before .is-forest .ensures .1 ∙ ap (λ (n : ℕ). replicate n 0) (c .before .before .before .before .before .before .before .before .before .before .before .before .before .before .before .clear .kept .0) ∙ zeroed (c .before .before .before .before .before .before .before .before .before .before .before .before .before .before .before .before .before .before .before .before .args .scratch .now) (c .before .before .before .before .before .before .before .before .before .before .before .before .before .before .before .before .before .if1 .left))
@@ -89,43 +59,47 @@ returns-6 c = (refused-5 (c .before .before .before .before .before .before .bef
 shallow-requires : tie.Need-shallow-requires
 shallow-requires c κs = (all-laid _ (passed (c .before .before .before .before .before .before .before .before .before .before .before .before .laid-out .ensures) (c .before .before .before .before .before .before .before .before .before .before .before .if2 .left)) (passed (c .before .before .before .before .before .before .before .before .before .before .counts-fit .ensures) (c .before .before .before .before .before .before .before .before .before .if3 .left)) .contexts-laid, rooted _ (range-pass _ (passed (c .before .before .before .before .before .before .before .before .fields-in-range .ensures) (c .before .before .before .before .before .before .before .if4 .left)) (passed (c .before .before .before .before .before .before .terms-in-range .ensures) (c .before .before .before .before .before .if5 .left))))
 
-same-length-6 : tie.Need-same-length-6
-same-length-6 c = search needs
-
 returns-7 : tie.Need-returns-7
 unfolding testedValue number bookTestCall
 returns-7 c = (refused-6 (c .before .before .before .before .before .before .before .before .before .before .before .before .before .before .before .before .before .before .before .before .before .before .args .book .now) (length (c .before .before .before .before .before .before .before .before .before .before .before .before .before .before .before .before .before .before .before .before .before .before .args .scratch .now)) (c .before .before .before .before .before .before .before .before .before .before .before .before .before .before .before .before .before .before .before .if1 .left) (passed (c .before .before .before .before .before .before .before .before .before .before .before .before .before .before .laid-out .ensures) (c .before .before .before .before .before .before .before .before .before .before .before .before .before .if2 .left)) (passed (c .before .before .before .before .before .before .before .before .before .before .before .before .counts-fit .ensures) (c .before .before .before .before .before .before .before .before .before .before .before .if3 .left)) (range-pass _ (passed (c .before .before .before .before .before .before .before .before .before .before .fields-in-range .ensures) (c .before .before .before .before .before .before .before .before .before .if4 .left)) (passed (c .before .before .before .before .before .before .before .before .terms-in-range .ensures) (c .before .before .before .before .before .before .before .if5 .left))) (passed (c .before .before .before .before .before .is-forest .ensures .0) (c .before .before .if6 .left)) (failed (c .before .shallow .ensures) (c .if7 .taken)), c .before .before .before .before .before .is-forest .ensures .1 ∙ ap (λ (n : ℕ). replicate n 0) (c .before .before .before .before .before .before .before .before .before .before .before .before .before .before .before .before .before .clear .kept .0) ∙ zeroed (c .before .before .before .before .before .before .before .before .before .before .before .before .before .before .before .before .before .before .before .before .before .before .args .scratch .now) (c .before .before .before .before .before .before .before .before .before .before .before .before .before .before .before .before .before .before .before .if1 .left))
 
-same-length-7 : tie.Need-same-length-7
-same-length-7 c = search needs
+names-good-requires : tie.Need-names-good-requires
+names-good-requires c κs = (all-laid _ (passed (c .before .before .before .before .before .before .before .before .before .before .before .before .before .before .laid-out .ensures) (c .before .before .before .before .before .before .before .before .before .before .before .before .before .if2 .left)) (passed (c .before .before .before .before .before .before .before .before .before .before .before .before .counts-fit .ensures) (c .before .before .before .before .before .before .before .before .before .before .before .if3 .left)), spelled _ (range-pass _ (passed (c .before .before .before .before .before .before .before .before .before .before .fields-in-range .ensures) (c .before .before .before .before .before .before .before .before .before .if4 .left)) (passed (c .before .before .before .before .before .before .before .before .terms-in-range .ensures) (c .before .before .before .before .before .before .before .if5 .left))))
 
 returns-8 : tie.Need-returns-8
 unfolding testedValue number bookTestCall
-returns-8 c = (accepted-all (c .before .before .before .before .before .before .before .before .before .before .before .before .before .before .before .before .before .before .before .before .before .before .args .book .now) (length (c .before .before .before .before .before .before .before .before .before .before .before .before .before .before .before .before .before .before .before .before .before .before .args .scratch .now)) (c .before .before .before .before .before .before .before .before .before .before .before .before .before .before .before .before .before .before .before .if1 .left) (passed (c .before .before .before .before .before .before .before .before .before .before .before .before .before .before .laid-out .ensures) (c .before .before .before .before .before .before .before .before .before .before .before .before .before .if2 .left)) (passed (c .before .before .before .before .before .before .before .before .before .before .before .before .counts-fit .ensures) (c .before .before .before .before .before .before .before .before .before .before .before .if3 .left)) (range-pass _ (passed (c .before .before .before .before .before .before .before .before .before .before .fields-in-range .ensures) (c .before .before .before .before .before .before .before .before .before .if4 .left)) (passed (c .before .before .before .before .before .before .before .before .terms-in-range .ensures) (c .before .before .before .before .before .before .before .if5 .left))) (passed (c .before .before .before .before .before .is-forest .ensures .0) (c .before .before .if6 .left)) (passed (c .before .shallow .ensures) (c .if7 .left)), c .before .before .before .before .before .is-forest .ensures .1 ∙ ap (λ (n : ℕ). replicate n 0) (c .before .before .before .before .before .before .before .before .before .before .before .before .before .before .before .before .before .clear .kept .0) ∙ zeroed (c .before .before .before .before .before .before .before .before .before .before .before .before .before .before .before .before .before .before .before .before .before .before .args .scratch .now) (c .before .before .before .before .before .before .before .before .before .before .before .before .before .before .before .before .before .before .before .if1 .left))
+returns-8 c = (refused-28 (c .before .before .before .before .before .before .before .before .before .before .before .before .before .before .before .before .before .before .before .before .before .before .before .before .args .book .now) (length (c .before .before .before .before .before .before .before .before .before .before .before .before .before .before .before .before .before .before .before .before .before .before .before .before .args .scratch .now)) (c .before .before .before .before .before .before .before .before .before .before .before .before .before .before .before .before .before .before .before .before .before .if1 .left) (passed (c .before .before .before .before .before .before .before .before .before .before .before .before .before .before .before .before .laid-out .ensures) (c .before .before .before .before .before .before .before .before .before .before .before .before .before .before .before .if2 .left)) (passed (c .before .before .before .before .before .before .before .before .before .before .before .before .before .before .counts-fit .ensures) (c .before .before .before .before .before .before .before .before .before .before .before .before .before .if3 .left)) (range-pass _ (passed (c .before .before .before .before .before .before .before .before .before .before .before .before .fields-in-range .ensures) (c .before .before .before .before .before .before .before .before .before .before .before .if4 .left)) (passed (c .before .before .before .before .before .before .before .before .before .before .terms-in-range .ensures) (c .before .before .before .before .before .before .before .before .before .if5 .left))) (passed (c .before .before .before .before .before .before .before .is-forest .ensures .0) (c .before .before .before .before .if6 .left)) (passed (c .before .before .before .shallow .ensures) (c .before .before .if7 .left)) (failed (c .before .names-good .ensures) (c .if8 .taken)), c .before .before .before .before .before .before .before .is-forest .ensures .1 ∙ ap (λ (n : ℕ). replicate n 0) (c .before .before .before .before .before .before .before .before .before .before .before .before .before .before .before .before .before .before .before .clear .kept .0) ∙ zeroed (c .before .before .before .before .before .before .before .before .before .before .before .before .before .before .before .before .before .before .before .before .before .before .before .before .args .scratch .now) (c .before .before .before .before .before .before .before .before .before .before .before .before .before .before .before .before .before .before .before .before .before .if1 .left))
+
+returns-9 : tie.Need-returns-9
+unfolding testedValue number bookTestCall
+returns-9 c = (accepted-all (c .before .before .before .before .before .before .before .before .before .before .before .before .before .before .before .before .before .before .before .before .before .before .before .before .args .book .now) (length (c .before .before .before .before .before .before .before .before .before .before .before .before .before .before .before .before .before .before .before .before .before .before .before .before .args .scratch .now)) (c .before .before .before .before .before .before .before .before .before .before .before .before .before .before .before .before .before .before .before .before .before .if1 .left) (passed (c .before .before .before .before .before .before .before .before .before .before .before .before .before .before .before .before .laid-out .ensures) (c .before .before .before .before .before .before .before .before .before .before .before .before .before .before .before .if2 .left)) (passed (c .before .before .before .before .before .before .before .before .before .before .before .before .before .before .counts-fit .ensures) (c .before .before .before .before .before .before .before .before .before .before .before .before .before .if3 .left)) (range-pass _ (passed (c .before .before .before .before .before .before .before .before .before .before .before .before .fields-in-range .ensures) (c .before .before .before .before .before .before .before .before .before .before .before .if4 .left)) (passed (c .before .before .before .before .before .before .before .before .before .before .terms-in-range .ensures) (c .before .before .before .before .before .before .before .before .before .if5 .left))) (passed (c .before .before .before .before .before .before .before .is-forest .ensures .0) (c .before .before .before .before .if6 .left)) (passed (c .before .before .before .shallow .ensures) (c .before .before .if7 .left)) (passed (c .before .names-good .ensures) (c .if8 .left)), c .before .before .before .before .before .before .before .is-forest .ensures .1 ∙ ap (λ (n : ℕ). replicate n 0) (c .before .before .before .before .before .before .before .before .before .before .before .before .before .before .before .before .before .before .before .clear .kept .0) ∙ zeroed (c .before .before .before .before .before .before .before .before .before .before .before .before .before .before .before .before .before .before .before .before .before .before .before .before .args .scratch .now) (c .before .before .before .before .before .before .before .before .before .before .before .before .before .before .before .before .before .before .before .before .before .if1 .left))
 
 pub book-test-spec : {M : Type 1} → statement M
 book-test-spec =
     tie.close
     (tie.spec
     returns
-    clear-requires
-    laid-out-requires
-    same-length
+    (λ c κs. search needs)
+    (λ c κs. search needs)
+    (λ c. search needs)
     returns-2
     counts-fit-requires
-    same-length-2
+    (λ c. search needs)
     returns-3
     fields-in-range-requires
-    same-length-3
+    (λ c. search needs)
     returns-4
     terms-in-range-requires
-    same-length-4
+    (λ c. search needs)
     returns-5
     is-forest-requires
-    same-length-5
+    (λ c. search needs)
     returns-6
     shallow-requires
-    same-length-6
+    (λ c. search needs)
     returns-7
-    same-length-7
-    returns-8)
+    names-good-requires
+    (λ c. search needs)
+    returns-8
+    (λ c. search needs)
+    returns-9)
