@@ -17,4 +17,3 @@ pub mod Names
 pub mod KeptRecords
 pub mod KeptTerms
 pub mod KeptProgram
-pub mod SymbolsHold

@@ -2,4 +2,3 @@ pub mod BookTest
 pub mod Scratch
 pub mod Promise
 pub mod Kept
-pub mod SymbolsHold

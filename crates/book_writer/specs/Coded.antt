@@ -30,7 +30,7 @@ pub record Spare (scratch : List ℕ) : Type 0 where
   pub long : scratchLeast ≤ length scratch
   pub clean : scratchAfter scratch ≡ scratch
 
--- behind refusals 1 to 6 of the book received
+-- behind refusals 1 to 6 and 28 of the book received
 pub record Ready (b : Book) (scratch : List ℕ) : Type 0 where
   pub tested : bookTest b ≡ accepted tt
   pub promise : Promise b
@@ -58,7 +58,7 @@ appendIn b a right number room = do
 unfoldable pub growBelow : Book → Growth → (room : ℕ) → Outcome Grown
 growBelow b g room = appendIn b (additionOf b g) (handedRight g) (numberOf b g) room
 
--- behind refusals 1 to 6
+-- behind refusals 1 to 6 and 28
 unfoldable pub growIn : Book → Growth → (room : ℕ) → Outcome Grown
 growIn b g room = do
   refuse 7 (outside b g)

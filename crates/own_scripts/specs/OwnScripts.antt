@@ -37,7 +37,7 @@ asked b es = askedFrom (start b) es
 abbrev pub ownAudited : (scratch : ℕ) → Book → List Event → Outcome Verdict
 ownAudited scratch b es = audited scratch (run b es .book) (numbersOf (asked b es)) (run b es .text)
 
--- What can still refuse it: 1 to 6 (the scratch, the book, a script that is too long), 25, and 26 where a name makes a line foreign.
+-- What can still refuse it: 1 to 6 and 28 (the scratch, the book, a script that is too long), 25, and 26 where an operator's name makes a line foreign.
 pub record OwnScripts (b : Book) (es : List Event) : Type 0 where
   pub accepts : (scratch : ℕ) (v : Verdict) → ownAudited scratch b es ≡ accepted v → v ≡ agrees
   pub never7 : (scratch : ℕ) → ¬ (ownAudited scratch b es ≡ refused 7)

@@ -6,3 +6,4 @@ mod Tag
 mod Values
 pub mod Answers
 pub mod BookCalls
+pub mod SymbolsHold

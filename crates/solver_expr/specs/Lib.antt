@@ -3,3 +3,4 @@ pub mod Lowering
 pub mod Operators
 pub mod Print
 pub mod Values
+pub mod SymbolsHold

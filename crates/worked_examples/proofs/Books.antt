@@ -126,14 +126,18 @@ none =
       lists = [];
     })
 
+-- a type with an empty name
+unfoldable pub nameless : Book
+nameless = written (record { letters = []; names = 0 ∷ 0 ∷ []; types = 0 ∷ []; constants = []; functions = []; axioms = []; patterns = []; terms = []; contexts = []; lists = [] })
+
 -- every kind of term; no contexts
 unfoldable pub shapes : Book
 shapes =
     written (record {
-      letters = ascii "Tvwfa+=%tag";
-      names = 0 ∷ 1 ∷ 1 ∷ 1 ∷ 2 ∷ 1 ∷ 0 ∷ 0 ∷ 3 ∷ 1 ∷ 4 ∷ 1 ∷ 5 ∷ 1 ∷ 6 ∷ 1 ∷ 7 ∷ 4 ∷ [];  -- T, v, w, (empty), f, a, +, =, %tag
+      letters = ascii "Tvwfa+=%tagred 40";
+      names = 0 ∷ 1 ∷ 1 ∷ 1 ∷ 2 ∷ 1 ∷ 0 ∷ 0 ∷ 3 ∷ 1 ∷ 4 ∷ 1 ∷ 5 ∷ 1 ∷ 6 ∷ 1 ∷ 7 ∷ 4 ∷ 11 ∷ 6 ∷ [];  -- T, v, w, (empty), f, a, +, =, %tag, red 40
       types = 0 ∷ [];
-      constants = 1 ∷ 1 ∷ 2 ∷ 2 ∷ 3 ∷ 0 ∷ [];
+      constants = 1 ∷ 1 ∷ 2 ∷ 2 ∷ 9 ∷ 0 ∷ [];
       functions = 4 ∷ 2 ∷ 0 ∷ 1 ∷ 0 ∷ 0 ∷ [];
       axioms = [];
       patterns = 4 ∷ 2 ∷ 0 ∷ 0 ∷ [];
@@ -142,7 +146,7 @@ shapes =
           1 ∷ 12 ∷ 0 ∷ 0 ∷ 0 ∷ 0 ∷ 0 ∷  -- 1: 12
           2 ∷ 5 ∷ 2 ∷ 0 ∷ 0 ∷ 0 ∷ 0 ∷  -- 2: |a:T|
           3 ∷ 0 ∷ 0 ∷ 0 ∷ 0 ∷ 0 ∷ 0 ∷  -- 3: v
-          3 ∷ 2 ∷ 0 ∷ 0 ∷ 0 ∷ 0 ∷ 0 ∷  -- 4: the constant with an empty name
+          3 ∷ 2 ∷ 0 ∷ 0 ∷ 0 ∷ 0 ∷ 0 ∷  -- 4: red 40
           4 ∷ 6 ∷ 1 ∷ 2 ∷ 0 ∷ 0 ∷ 0 ∷  -- 5: (+ 12 v)
           5 ∷ 0 ∷ 3 ∷ 1 ∷ 0 ∷ 0 ∷ 0 ∷  -- 6: (f |a:T|)
           3 ∷ 0 ∷ 0 ∷ 0 ∷ 0 ∷ 0 ∷ 0 ∷  -- 7: v
@@ -151,7 +155,7 @@ shapes =
           7 ∷ 0 ∷ 8 ∷ 9 ∷ 0 ∷ 0 ∷ 0 ∷  -- 10: (let ((v v)) (ite ..))
           3 ∷ 1 ∷ 0 ∷ 0 ∷ 0 ∷ 0 ∷ 0 ∷  -- 11: w, in pattern 0
           3 ∷ 0 ∷ 0 ∷ 0 ∷ 0 ∷ 0 ∷ 0 ∷  -- 12: v, in pattern 0
-          4 ∷ 7 ∷ 6 ∷ 2 ∷ 0 ∷ 0 ∷ 0 ∷  -- 13: (= (f |a:T|) ())
+          4 ∷ 7 ∷ 6 ∷ 2 ∷ 0 ∷ 0 ∷ 0 ∷  -- 13: (= (f |a:T|) |red 40|)
           8 ∷ 1 ∷ 8 ∷ 2 ∷ 10 ∷ 2 ∷ 13 ∷  -- 14: (forall ((v Int) (w T)) (! .. :pattern (w v) :pattern ()))
           8 ∷ 0 ∷ 0 ∷ 0 ∷ 12 ∷ 1 ∷ 10 ∷  -- 15: exists, no variables, the empty pattern, (let ..)
           0 ∷ 0 ∷ 0 ∷ 0 ∷ 0 ∷ 0 ∷ 0 ∷  -- 16: false
@@ -248,15 +252,16 @@ cycle =
       lists = 1 ∷ 0 ∷ 0 ∷ 1 ∷ 0 ∷ 1 ∷ 2 ∷ 4 ∷ 5 ∷ 6 ∷ 0 ∷ 1 ∷ 8 ∷ 0 ∷ [];
     })
 
--- what types, bindings, operators and empty names declare; nodes 8 and 9 are equal siblings
+-- what types, bindings, operators and names that are no simple symbols declare; nodes 8 and 9 are equal siblings
 unfoldable pub declaring : Book
 declaring =
     written (record {
-      letters = ascii "TUWXcwvf";
-      names = 0 ∷ 1 ∷ 1 ∷ 1 ∷ 2 ∷ 1 ∷ 3 ∷ 1 ∷ 0 ∷ 0 ∷ 4 ∷ 1 ∷ 5 ∷ 1 ∷ 6 ∷ 1 ∷ 7 ∷ 1 ∷ [];  -- T, U, W, X, (empty), c, w, v, f
-      types = 0 ∷ 1 ∷ 2 ∷ 3 ∷ 4 ∷ [];
-      constants = 5 ∷ 5 ∷ 6 ∷ 2 ∷ 7 ∷ 3 ∷ 4 ∷ 6 ∷ [];
-      functions = 8 ∷ 4 ∷ 0 ∷ 2 ∷ 2 ∷ 1 ∷ 4 ∷ 1 ∷ 3 ∷ 1 ∷ 0 ∷ 0 ∷ [];
+      letters = ascii "TUWXcwvfred 40let|a b|";
+      names =
+          0 ∷ 1 ∷ 1 ∷ 1 ∷ 2 ∷ 1 ∷ 3 ∷ 1 ∷ 0 ∷ 0 ∷ 4 ∷ 1 ∷ 5 ∷ 1 ∷ 6 ∷ 1 ∷ 7 ∷ 1 ∷ 8 ∷ 6 ∷ 14 ∷ 3 ∷ 17 ∷ 5 ∷ [];  -- T, U, W, X, (empty), c, w, v, f, red 40, let, |a b|
+      types = 0 ∷ 1 ∷ 2 ∷ 3 ∷ 9 ∷ [];
+      constants = 5 ∷ 5 ∷ 6 ∷ 2 ∷ 7 ∷ 3 ∷ 10 ∷ 6 ∷ [];
+      functions = 8 ∷ 4 ∷ 0 ∷ 2 ∷ 2 ∷ 1 ∷ 11 ∷ 1 ∷ 3 ∷ 1 ∷ 0 ∷ 0 ∷ [];
       axioms = 0 ∷ 4 ∷ 1 ∷ [];
       patterns = [];
       terms =
@@ -272,10 +277,10 @@ declaring =
           3 ∷ 2 ∷ 0 ∷ 0 ∷ 0 ∷ 0 ∷ 0 ∷  -- 9: v
           3 ∷ 2 ∷ 0 ∷ 0 ∷ 0 ∷ 0 ∷ 0 ∷  -- 10: v
           7 ∷ 2 ∷ 9 ∷ 10 ∷ 0 ∷ 0 ∷ 0 ∷  -- 11: (let ((v v)) v)
-          3 ∷ 3 ∷ 0 ∷ 0 ∷ 0 ∷ 0 ∷ 0 ∷  -- 12: the constant with an empty name
-          2 ∷ 4 ∷ 6 ∷ 0 ∷ 0 ∷ 0 ∷ 0 ∷  -- 13: |:|
-          4 ∷ 4 ∷ 7 ∷ 2 ∷ 0 ∷ 0 ∷ 0 ∷  -- 14: (() () |:|)
-          5 ∷ 1 ∷ 0 ∷ 0 ∷ 0 ∷ 0 ∷ 0 ∷  -- 15: the function with an empty name
+          3 ∷ 3 ∷ 0 ∷ 0 ∷ 0 ∷ 0 ∷ 0 ∷  -- 12: the constant let
+          2 ∷ 4 ∷ 6 ∷ 0 ∷ 0 ∷ 0 ∷ 0 ∷  -- 13: |:red 40|, a literal with an empty text
+          4 ∷ 4 ∷ 7 ∷ 2 ∷ 0 ∷ 0 ∷ 0 ∷  -- 14: (() |let| |:red 40|)
+          5 ∷ 1 ∷ 0 ∷ 0 ∷ 0 ∷ 0 ∷ 0 ∷  -- 15: the function |a b|
           0 ∷ 1 ∷ 0 ∷ 0 ∷ 0 ∷ 0 ∷ 0 ∷  -- 16: true
           0 ∷ 1 ∷ 0 ∷ 0 ∷ 0 ∷ 0 ∷ 0 ∷  -- 17: true
           3 ∷ 0 ∷ 0 ∷ 0 ∷ 0 ∷ 0 ∷ 0 ∷  -- 18: c
@@ -312,5 +317,5 @@ quantified =
     })
 
 unfoldable pub books : Unit {0}
-unfolding bytes32 contents bodies laid written sample small none shapes literals explained cycle declaring quantified
+unfolding bytes32 contents bodies laid written sample small none nameless shapes literals explained cycle declaring quantified
 books = tt

@@ -48,23 +48,23 @@ layouts =
     ∷ (lay 10 0, shown (ascii "(let\n  ((v\n    v))\n  (ite\n    true\n    (+\n      12\n      v)\n    v))"))
     ∷ (
       lay 14 0,
-      shown (ascii "(forall\n  ((v\n    Int)\n    (w\n      T))\n  (!\n    (=\n      (f\n        |a:T|)\n      ())\n    :pattern\n    (w\n      v)\n    :pattern\n    ()))"),
+      shown (ascii "(forall\n  ((v\n    Int)\n    (w\n      T))\n  (!\n    (=\n      (f\n        |a:T|)\n      |red 40|)\n    :pattern\n    (w\n      v)\n    :pattern\n    ()))"),
     )
     -- without variables the body alone; the same variable twice, and an empty pattern alone
     ∷ (lay 15 0, shown (ascii "(let\n  ((v\n    v))\n  (ite\n    true\n    (+\n      12\n      v)\n    v))"))
     ∷ (lay 17 0, shown (ascii "(exists\n  ((v\n    Int)\n    (v\n      Int))\n  (!\n    false\n    :pattern\n    ()))"))
-    -- an empty name: a constant's, an operator's, and an operator's without arguments
-    ∷ (lay 4 0, shown (ascii "()"))
+    -- a name that is no simple symbol; an empty one, an operator's with and without arguments
+    ∷ (lay 4 0, shown (ascii "|red 40|"))
     ∷ (lay 19 0, shown (ascii "(()\n  v)"))
     ∷ (lay 20 0, shown (ascii "()"))
     -- an indent of one space, and the largest: it stands only behind a newline
     ∷ (lay 5 1, shown (ascii "(+\n   12\n   v)"))
     ∷ (lay 9 1, shown (ascii "(ite\n   true\n   (+\n     12\n     v)\n   v)"))
     ∷ (lay 3 0xFFFFFFFFFFFFFFFF, shown (ascii "v"))
-    ∷ (lay 4 0xFFFFFFFFFFFFFFFF, shown (ascii "()"))
+    ∷ (lay 4 0xFFFFFFFFFFFFFFFF, shown (ascii "|red 40|"))
     ∷ (lay 20 0xFFFFFFFFFFFFFFFF, shown (ascii "()"))
     -- flat, where the indent is ignored; and %tag, a literal and not an operator. R 45
-    ∷ (line 14 0 0, shown (ascii "(forall ((v Int) (w T)) (! (= (f |a:T|) ()) :pattern (w v) :pattern ()))"))
+    ∷ (line 14 0 0, shown (ascii "(forall ((v Int) (w T)) (! (= (f |a:T|) |red 40|) :pattern (w v) :pattern ()))"))
     ∷ (line 9 0 0xFFFFFFFFFFFFFFFF, shown (ascii "(ite true (+ 12 v) v)"))
     ∷ (line 21 0 0, shown (ascii "0"))
     ∷ (line 21 0xFFFFFFFFFFFFFFFF 0, shown (ascii "18446744073709551615"))
@@ -249,12 +249,15 @@ declared =
       texts (ran declaring (askFor (host 99 0) 0 7 ∷ []) .text),
       texts (ascii "(push 1)\n(declare-sort U 0)\n(declare-fun v () U)\n(push 1)\n(assert (not v))\n(check-sat)\n"),
     )
-    -- empty names are raw where they are declared, and () elsewhere. R 47
+    -- names that are no simple symbols go between bars, but for an operator's; the type is raw inside a literal's. An empty operator is (). R 47
     ∷ (
       moves declaring (6 ∷ []),
-      texts (ascii "(push 1)\n(declare-sort  0)\n(declare-fun  () ())\n(declare-fun |:| () ())\n(assert (() () |:|))\n"),
+      texts (ascii "(push 1)\n(declare-sort |red 40| 0)\n(declare-fun |let| () |red 40|)\n(declare-fun |:red 40| () |red 40|)\n(assert (() |let| |:red 40|))\n"),
     )
-    ∷ (moves declaring (7 ∷ []), texts (ascii "(push 1)\n(declare-sort  0)\n(declare-fun  (()) Int)\n(assert ())\n"))
+    ∷ (
+      moves declaring (7 ∷ []),
+      texts (ascii "(push 1)\n(declare-sort |red 40| 0)\n(declare-fun |a b| (|red 40|) Int)\n(assert |a b|)\n"),
+    )
     -- equal siblings are two nodes
     ∷ (moves declaring (8 ∷ 9 ∷ []), texts (ascii "(push 1)\n(assert true)\n(pop 1)\n(push 1)\n(assert true)\n"))
     -- ite: guard, then, else

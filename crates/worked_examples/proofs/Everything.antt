@@ -16,6 +16,7 @@ use Rattle.book_fields.specs.Fields.{within, typeLimit, entryBelow, isRange, le
 use Rattle.book_terms.specs.Terms.{isZero, uses, kindInRange, termInRange, termsInRange}
 use Rattle.book_forest.specs.Forest.{entryReference, rangeReferences, patternReferences, listedReferences, kindReferences, termReferences, axiomReferences, contextReferences, references, allSmaller, noTwice, isForest}
 use Rattle.book_depth.specs.Depth.{steps, nodeDepth, isShallow, shallow}
+use Rattle.book_names.specs.Names.{plainType, literalNamed, saysNamed, recordNamed, sectionNamed, termNamed, namesGood}
 use Rattle.book_test.specs.BookTest.{inRange, bookTest, ready, testedValue, bookTestCall}
 use Rattle.solver_expr.specs.SolverExpr.{typeToSExpr, typeList, typesToSExpr, typeToString, flat, extraIndent, space, nameToString, toString, listToString, argsToString, boolean, integer, id, funcAppl, eq, negation, bigAnd}
 use Rattle.solver_expr.specs.Lowering.{operatorName, literalName, literalToString, boundVarToSExpr, boundVarsToSExpr, annotate, quantifier, toSExpr, toSExprs, patternsToSExprs}
@@ -52,7 +53,7 @@ use Rattle.stack_rule.specs.Bodies.{doIfAccepted, doEvent, doFrom, doAll}
 
 -- the book, and its test
 unfoldable pub testing : Unit {0}
-unfolding opened allBelow joinBelow upTo refuse _>>_ mapOutcome overlay bufferAfter scratchAfter number offset size field entries letter nameText laidFrom laidOut countFits countsFit within typeLimit entryBelow isRange letterInRange nameInRange typeInRange constantInRange functionInRange axiomInRange patternInRange contextInRange fieldsInRange isZero uses kindInRange termInRange termsInRange entryReference rangeReferences patternReferences listedReferences kindReferences termReferences axiomReferences contextReferences references allSmaller noTwice isForest steps nodeDepth isShallow shallow inRange bookTest ready testedValue bookTestCall kindOf
+unfolding opened allBelow joinBelow upTo refuse _>>_ mapOutcome overlay bufferAfter scratchAfter number offset size field entries letter nameText laidFrom laidOut countFits countsFit within typeLimit entryBelow isRange letterInRange nameInRange typeInRange constantInRange functionInRange axiomInRange patternInRange contextInRange fieldsInRange isZero uses kindInRange termInRange termsInRange entryReference rangeReferences patternReferences listedReferences kindReferences termReferences axiomReferences contextReferences references allSmaller noTwice isForest steps nodeDepth isShallow shallow isTag literalOf literalBy literalAt typeOf plainType literalNamed saysNamed recordNamed sectionNamed termNamed namesGood inRange bookTest ready testedValue bookTestCall kindOf
 testing = tt
 
 -- what a book holds, and how it is printed

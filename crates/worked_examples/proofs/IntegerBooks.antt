@@ -1,4 +1,4 @@
--- Books of Integers and of one chain of contexts that refer to them, as many as a book can have: they pass 2 to 4, and whether they pass 5 and 6
+-- Books of Integers and of one chain of contexts that refer to them, as many as a book can have: they pass 2 to 4 and 28, and whether they pass 5 and 6
 -- is up to the contexts. The checker can't compute a book of some hundred records.
 use Prim.Native.Nat.{ℕ, zero, suc, _*_, _^_, _<_, _≤_}
 use native.Mathlib.Nat.{mul-div-cancel-left}
@@ -14,15 +14,16 @@ use Rattle.basics.specs.Bytes.{row}
 use Rattle.basics.specs.Outcome.{Outcome, refused, accepted, refuse, _>>_}
 use Rattle.basics.proofs.Counting.{below-all}
 use Rattle.basics.proofs.All.{end, more}
-use Rattle.book.specs.Book.{Book, names, axioms, terms, contexts, size, field, depthMost}
+use Rattle.book.specs.Book.{Book, names, types, constants, functions, axioms, terms, contexts, size, field, depthMost}
 use Rattle.book.specs.Laid.{sectionAt, sectionCount}
-use Rattle.book.specs.Decode.{kindOf}
+use Rattle.book.specs.Decode.{kindOf, literalBy, literalAt}
 use Rattle.book.proofs.EachSection.{each-section}
 use Rattle.book_fields.specs.Fields.{within, letterInRange, nameInRange, typeInRange, constantInRange, functionInRange, axiomInRange, patternInRange, contextInRange, fieldsInRange}
 use Rattle.book_terms.specs.Terms.{isZero, uses, kindInRange, termInRange, termsInRange}
 use Rattle.book_forest.specs.Forest.{Reference, reference, kindReferences, termReferences, contextReferences, references, isForest}
 use Rattle.book_depth.specs.Depth.{shallow}
 use Rattle.book_depth.proofs.Chain.{chain-shallow}
+use Rattle.book_names.specs.Names.{saysNamed, recordNamed, sectionNamed, termNamed, namesGood}
 use Rattle.book_test.specs.BookTest.{inRange, bookTest}
 use Rattle.book_layout.specs.Layout.{Bodies, bodyAt, countOf, assembled, Fits}
 use Rattle.book_layout.proofs.Agree.{join-agree}
@@ -119,6 +120,10 @@ module _ (n m : ℕ) (term : ℕ → ℕ) (few : n ≤ terms .most) (short : m �
     term-right =
         rw (term-field 0 (omega arith), term-field 3 (omega arith), term-field 4 (omega arith), term-field 5 (omega arith), term-field 6 (omega arith))
 
+    term-named : termNamed book k ≡ true
+    unfolding termNamed saysNamed literalAt literalBy kindOf
+    term-named = rw (term-field 0 (omega arith))
+
     term-alone : termReferences book k ≡ []
     unfolding termReferences kindOf kindReferences
     term-alone = rw (term-field 0 (omega arith))
@@ -163,6 +168,12 @@ module _ (n m : ℕ) (term : ℕ → ℕ) (few : n ≤ terms .most) (short : m �
         integers,
       )
 
+  names-good : namesGood book ≡ true
+  unfolding namesGood sectionNamed countOf
+  names-good =
+      let integers : allBelow (size book terms) (termNamed book) ≡ true = below-all _ _ (λ k h. term-named k (omega (arith, terms-size))) in
+      rw (none 2 (omega arith) refl (recordNamed book types), none 3 (omega arith) refl (recordNamed book constants), none 4 (omega arith) refl (recordNamed book functions), integers)
+
   pub refers : references book ≡ joinBelow m (nodeReference n term)
   unfolding references countOf joinBelow
   refers =
@@ -173,10 +184,10 @@ module _ (n m : ℕ) (term : ℕ → ℕ) (few : n ≤ terms .most) (short : m �
   pub integer-test : {forest : Bool} → isForest book ≡ forest → bookTest book ≡ answerOf forest (leb m depthMost)
   unfolding bookTest refuse _>>_
   integer-test {forest} e =
-      rw (laid-out own fits, counts-fit own fits most, in-range, e, chain-shallow book (λ k h. context-field k (omega (arith, contexts-size)) 0 (omega arith)), contexts-size)
+      rw (laid-out own fits, counts-fit own fits most, in-range, e, chain-shallow book (λ k h. context-field k (omega (arith, contexts-size)) 0 (omega arith)), contexts-size, names-good)
       (by forest (leb m depthMost))
     where
-      by : (x y : Bool) → _≡_ {A = Outcome (Unit {0})} (refuse 5 (not x) >> (refuse 6 (not y) >> accepted tt)) (answerOf x y)
+      by : (x y : Bool) → _≡_ {A = Outcome (Unit {0})} (refuse 5 (not x) >> (refuse 6 (not y) >> (refuse 28 false >> accepted tt))) (answerOf x y)
       by false y = refl
       by true false = refl
       by true true = refl

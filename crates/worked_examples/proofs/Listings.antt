@@ -6,7 +6,7 @@ use Rattle.basics.specs.Text.{Text, ascii}
 use Rattle.book.specs.Book.{Book}
 use Rattle.rsolver.specs.Listing.{listingCall}
 use Rattle.worked_examples.proofs.Everything.{everything}
-use Rattle.worked_examples.proofs.Books.{books, sample, small, none, shapes, literals, declaring, quantified}
+use Rattle.worked_examples.proofs.Books.{books, sample, small, none, nameless, shapes, literals, declaring, quantified}
 use Rattle.worked_examples.proofs.Hosts.{hosts, dirty, blank, shows, hides, Seen, print}
 
 -- the call in a buffer with so much room
@@ -48,6 +48,8 @@ obligations =
     ∷ (list sample 0xFFFFFFFF 0xFFFFFFFF 80, refused 80 7)
     ∷ (list none 0 0 80, refused 80 7)
     ∷ (list [] 9 9 80, refused 80 2)
+    -- 28 before 7, though the names are not printed here
+    ∷ (list nameless 9 9 80, refused 80 28)
     ∷ []
 
 pub obligations-hold : map (λ e. e .0) obligations ≡ map (λ e. e .1) obligations
@@ -78,9 +80,9 @@ leaves =
     ∷ (goal small 15, says (ascii "%tag:int"))
     ∷ (goal shapes 21, says (ascii "%tag:T"))
     ∷ (goal shapes 3, says (ascii "v"))
-    -- empty names: of a constant; of a literal and its type
-    ∷ (goal shapes 4, says [])
-    ∷ (goal declaring 13, says (ascii ":"))
+    -- raw: a name that goes to the solver between bars; an empty text of a literal, and its type
+    ∷ (goal shapes 4, says (ascii "red 40"))
+    ∷ (goal declaring 13, says (ascii ":red 40"))
     ∷ []
 
 pub leaves-hold : map (λ e. e .0) leaves ≡ map (λ e. e .1) leaves
@@ -94,15 +96,15 @@ kinds =
     (goal small 3, says (ascii "and()"))
     ∷ (goal small 7, says (ascii "and(a, not(b))"))
     ∷ (goal shapes 6, says (ascii "f(a:T)"))
-    -- an operator with an empty name, with and without an argument; such a function; an operator that is called %tag
+    -- an operator with an empty name, with and without an argument; names that are no simple symbols; an operator that is called %tag
     ∷ (goal shapes 19, says (ascii "(v)"))
     ∷ (goal shapes 20, says (ascii "()"))
-    ∷ (goal declaring 14, says (ascii "(, :)"))
-    ∷ (goal declaring 15, says (ascii "()"))
+    ∷ (goal declaring 14, says (ascii "(let, :red 40)"))
+    ∷ (goal declaring 15, says (ascii "|a b|()"))
     ∷ (goal shapes 22, says (ascii "%tag()"))
     ∷ (goal shapes 9, says (ascii "(if true +(12, v) else v)"))
     ∷ (goal shapes 10, says (ascii "(val v: int := v (if true +(12, v) else v))"))
-    ∷ (goal shapes 14, says (ascii "(forall v: int, w: T pattern w, v pattern  =(f(a:T), ))"))
+    ∷ (goal shapes 14, says (ascii "(forall v: int, w: T pattern w, v pattern  =(f(a:T), red 40))"))
     -- no variables but a pattern; an empty pattern; the same variable twice
     ∷ (goal small 13, says (ascii "(exists  pattern a true)"))
     ∷ (goal shapes 15, says (ascii "(exists  pattern  (val v: int := v (if true +(12, v) else v)))"))

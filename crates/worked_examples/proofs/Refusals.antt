@@ -125,8 +125,8 @@ only s n = laid (map (λ t. (t .size, if eqb (t .number) (s .number) then replic
 typed : ℕ → Book
 typed n =
     written (record {
-      letters = [];
-      names = 0 ∷ 0 ∷ [];
+      letters = ascii "T";
+      names = 0 ∷ 1 ∷ [];
       types = replicate n 0;
       constants = [];
       functions = [];
@@ -218,6 +218,61 @@ pub forests-hold : map (λ e. e .0) forests ≡ map (λ e. e .1) forests
 unfolding forests
 forests-hold = refl
 
+-- ---- REFUSAL 28
+-- the good book, whose name 0 has two letters
+lettered : (first second : ℕ) → Book
+lettered x y = set (set (one names 0 1 2) 80 x) 81 y
+
+-- a term of kind 2 or 4, a literal or an operator, and a context with it whose trace is |
+barred : (kind name typ : ℕ) → Book
+barred kind n typ =
+    written (record {
+      letters = ascii "||%tag";
+      names = 0 ∷ 1 ∷ 0 ∷ 2 ∷ 2 ∷ 4 ∷ 3 ∷ 3 ∷ [];  -- |, ||, %tag, tag
+      types = 1 ∷ [];
+      constants = [];
+      functions = [];
+      axioms = [];
+      patterns = [];
+      terms = kind ∷ n ∷ typ ∷ 0 ∷ 0 ∷ 0 ∷ 0 ∷ [];
+      contexts = 0 ∷ 0 ∷ 1 ∷ [];
+      lists = [];
+    })
+
+pub names28 : List (Outcome (Unit {0}) × Outcome (Unit {0}))
+unfolding everything books seed at with′ one two ok lettered barred
+names28 =
+    -- an empty name: of the type, the constant, the function; of an operator, as of the literal, it passes
+    (bookTest (one types 0 0 1), refused 28)
+    ∷ (bookTest (one constants 0 0 1), refused 28)
+    ∷ (bookTest (one functions 0 0 1), refused 28)
+    ∷ (bookTest (one terms 5 1 1), ok)
+    -- a bar, a backslash; in no name
+    ∷ (bookTest (set seed 80 0x7C), refused 28)
+    ∷ (bookTest (set seed 80 0x5C), refused 28)
+    ∷ (bookTest (set seed 81 0x7C), ok)
+    -- around the whole, at one end, and a backslash
+    ∷ (bookTest (lettered 0x7C 0x7C), ok)
+    ∷ (bookTest (lettered 0x7C 0x61), refused 28)
+    ∷ (bookTest (lettered 0x61 0x7C), refused 28)
+    ∷ (bookTest (lettered 0x61 0x5C), refused 28)
+    -- a literal: a bar in its text, also around it, or in its type's name, also around that; but %tag
+    ∷ (bookTest (barred 2 0 0), refused 28)
+    ∷ (bookTest (barred 2 1 0), refused 28)
+    ∷ (bookTest (barred 2 3 0), ok)
+    ∷ (bookTest (barred 2 3 2), refused 28)
+    ∷ (bookTest (barred 2 2 2), ok)
+    -- an operator, and the trace of each of these books
+    ∷ (bookTest (barred 4 0 0), ok)
+    -- behind 5 and 4
+    ∷ (bookTest (two types 0 0 1 contexts 1 1 9), refused 5)
+    ∷ (bookTest (two types 0 0 1 contexts 1 2 3), refused 4)
+    ∷ []
+
+pub names28-hold : map (λ e. e .0) names28 ≡ map (λ e. e .1) names28
+unfolding names28
+names28-hold = refl
+
 -- ---- THE CALL book test: the answer and the scratch. R 18
 tested : Book → BookTested
 tested b = bookTestCall b dirty
@@ -230,6 +285,7 @@ unfolding everything books hosts seed at with′ one ok tested gives
 calls =
     (tested none, gives ok)
     ∷ (tested (one contexts 1 1 9), gives (refused 5))
+    ∷ (tested (one types 0 0 1), gives (refused 28))
     -- 1 before all others, and the scratch not touched
     ∷ (bookTestCall [] (replicate 127 0x55), record { answer = refused 1; scratch = replicate 127 0x55 })
     ∷ (bookTestCall none [], record { answer = refused 1; scratch = [] })
