@@ -3,16 +3,15 @@ use Prim.Native.Nat.{ℕ, zero, suc, _+_, _≤_, _<_}
 use native.Mathlib.Nat.{zero-add}
 use native.Mathlib.Omega.{arith}
 use mathlib.Core.Path.{_≡_, refl, ap, _∙_}
-use mathlib.Core.Option.{none, some}
 use lib.ListN.{length, getD}
 use Rattle.basics.proofs.All.{All, end, all-map}
 use Rattle.basics.proofs.Counting.{at-up}
 use Rattle.book.specs.Book.{Book, types, constants, functions, axioms, terms, size, field, userTypes}
 use Rattle.book.specs.RExpr.{BuiltInOperator, UserDefinedFunction}
 use Rattle.book.specs.Program.{Axiom, Program, axiomAt}
-use Rattle.book.specs.Decode.{Kind, customLiteral, kindOf, typeOf, constantOf, functionOf, literalOf, literalBy, literalAt, term, axiomOf, program}
+use Rattle.book.specs.Decode.{Kind, customLiteral, kindOf, typeOf, constantOf, functionOf, literalOf, term, axiomOf, program}
 use Rattle.book.proofs.Every.{EveryR}
-use Rattle.book.proofs.Terms.{axioms-length, literals-length, literal-at}
+use Rattle.book.proofs.Terms.{axioms-length, literals-length, literal-at, literal-here}
 use Rattle.book_test.specs.Promise.{Promise, Range}
 use Rattle.book_test.proofs.Entries.{entries-each}
 use Rattle.book_test.proofs.EveryTerm.{literal-good, every-term, every-node, every-axiom}
@@ -57,15 +56,11 @@ module _ (b : Book) (P : Promise b) where
           explainedBy = entries-each b (λ n. Q (axiom′ n)) _ _ (λ i m. has (axiom′ _) (P .function k l .explainedBy .below i m));
         }
 
-    literal-here : (t : ℕ) → kindOf (field b terms t 0) ≡ customLiteral → literalAt b t ≡ some (literalOf b t)
-    unfolding literalAt literalBy
-    literal-here t e = rw e
-
     literal-has : (t : ℕ) → t < size b terms → kindOf (field b terms t 0) ≡ customLiteral → LiteralHas Q (program b) t (literalOf b t)
     literal-has t l e =
         record {
           own = omega (arith, P .terms-laid .few);
-          here = literal-at b t l ∙ literal-here t e;
+          here = literal-at b t l ∙ literal-here b t e;
           typ = unfold literalOf in type-has _ (literal-good b P t l e .typ);
         }
 
