@@ -1,20 +1,20 @@
--- The table of reserved words: one test, computed over the whole table.
-use Prim.Native.Nat.{ℕ, _+_, _-_, _<_, _≤_}
+-- The table of reserved words: one test, computed over the whole table; and the looks that spare it.
+use Prim.Native.Nat.{ℕ, suc, _+_, _-_, _<_, _≤_}
 use native.Mathlib.Omega.{arith}
-use mathlib.Core.Path.{_≡_, refl, sym}
+use mathlib.Core.Path.{_≡_, refl, sym, ap, _∙_}
 use mathlib.Core.Bool.{Bool, true, false, _&&_, false≢true}
 use mathlib.Core.List.{List, [], _∷_, _++_}
-use lib.Dec.{eqb, leb}
+use lib.Dec.{eqb, leb, ltb}
 use lib.ListN.{length, getD, take, drop}
-use borrow.Author.Tests.{leb-true, eqb-false}
+use borrow.Author.Tests.{leb-true, eqb-false, le-ltb, lt-leb}
 use Rattle.basics.specs.Text.{Text, ascii, same}
 use Rattle.basics.specs.Lists.{allBelow, all}
 use Rattle.basics.proofs.Bool.{and-both}
 use Rattle.basics.proofs.Counting.{below-each}
-use Rattle.basics.proofs.Texts.{same-eq}
+use Rattle.basics.proofs.Texts.{same-eq, same-no, same-length}
 use Rattle.symbols.specs.Symbols.{generalWords, commandWords, reservedWords, among, reserved}
-use Rattle.symbols.specs.Pieces.{onlyIf, piecesBy, pieces}
-use Rattle.basics.proofs.Texts.{same-length}
+use Rattle.symbols.specs.Masks.{inMasks}
+use Rattle.symbols.specs.Pieces.{LONGEST, onlyIf, piecesBy, pieces}
 
 -- the constants of the code
 unfoldable pub bytes : Text
@@ -52,13 +52,13 @@ right n =
     leb (getD places n 0) (getD places (n + 1) 0)
     && (leb (getD places (n + 1) 0) 387 && sameTexts (pieces n (lent n)) (ofLength n reservedWords))
 
-table : allBelow 22 right ≡ true
+table : allBelow (suc LONGEST) right ≡ true
 unfolding allBelow right places bytes same sameTexts ofLength onlyIf piecesBy pieces generalWords commandWords reservedWords
 table = refl
 
-module _ (n : ℕ) (h : n ≤ 21) where
+module _ (n : ℕ) (h : n ≤ LONGEST) where
   checked : right n ≡ true
-  checked = below-each 22 right table n (omega arith)
+  checked = below-each (suc LONGEST) right table n (omega arith)
 
   pub places-rise : getD places n 0 ≤ getD places (n + 1) 0
   unfolding right
@@ -85,28 +85,41 @@ among-length n (w ∷ ws) = at (eqb (length n) (length w)) refl (among-length n 
     at true e h = rw h
     at false e h = rw (← same-length n w (eqb-false (length n) (length w) e)) h
 
-pub among-lent : (n : Text) → length n ≤ 21 → among n (pieces (length n) (lent (length n))) ≡ reserved n
+pub among-lent : (n : Text) → length n ≤ LONGEST → among n (pieces (length n) (lent (length n))) ≡ reserved n
 unfolding reserved
 among-lent n h = rw (words-are (length n) h) (among-length n reservedWords)
 
--- no word is longer
-too-long : (n : Text) (ws : List Text) → all ws (λ w. leb (length w) 21) ≡ true → 21 < length n → among n ws ≡ false
+-- a name that fails a test that each word passes is none of them
+none-of : (test : Text → Bool) (n : Text) (ws : List Text) → all ws test ≡ true → test n ≡ false → among n ws ≡ false
 unfolding all among
-too-long n [] a h = refl
-too-long n (w ∷ ws) a h =
-    let r = and-both (leb (length w) 21) (all ws (λ w. leb (length w) 21)) a in
-    let short = leb-true (length w) 21 (r .0) in
-    rw (← same-length n w (λ e. omega arith)) (too-long n ws (r .1) h)
+none-of test n [] a f = refl
+none-of test n (w ∷ ws) a f =
+    let r = and-both (test w) (all ws test) a in
+    rw (← same-no n w (λ e. false≢true (sym f ∙ ap test e ∙ r .0))) (none-of test n ws (r .1) f)
 
-longest : all reservedWords (λ w. leb (length w) 21) ≡ true
-unfolding all reservedWords generalWords commandWords
-longest = refl
-
-pub long-none : (n : Text) → 21 < length n → false ≡ reserved n
+fails : (test : Text → Bool) → all reservedWords test ≡ true → (n : Text) → test n ≡ false → false ≡ reserved n
 unfolding reserved
-long-none n h = sym (too-long n reservedWords longest h)
+fails test a n f = sym (none-of test n reservedWords a f)
 
 pub empty-none : (n : Text) → length n ≡ 0 → false ≡ reserved n
-unfolding reserved among reservedWords generalWords commandWords same
-empty-none [] e = refl
-empty-none (x ∷ n) e = absurd (omega arith)
+unfolding all reservedWords generalWords commandWords
+empty-none n h = fails (λ w. ltb 0 (length w)) refl n (le-ltb 0 (length n) (omega arith))
+
+pub long-none : (n : Text) → LONGEST < length n → false ≡ reserved n
+unfolding all reservedWords generalWords commandWords
+long-none n h = fails (λ w. leb (length w) LONGEST) refl n (lt-leb (length n) LONGEST h)
+
+-- the looks at the first and the last letter, with the masks of the code
+abbrev begins : Text → Bool
+begins w = inMasks 0x200000000 0xd30fa80084114 (getD w 0 0)
+
+abbrev ends : Text → Bool
+ends w = inMasks 0x200000000 0x1dd1e882001080 (getD w (length w - 1) 0)
+
+pub first-none : (n : Text) → begins n ≡ false → false ≡ reserved n
+unfolding all inMasks reservedWords generalWords commandWords
+first-none = fails begins refl
+
+pub last-none : (n : Text) → ends n ≡ false → false ≡ reserved n
+unfolding all inMasks reservedWords generalWords commandWords
+last-none = fails ends refl

@@ -1,13 +1,24 @@
 // The reserved words.
 ghost use mathlib.Core.Path.{_≡_};
-ghost use Prim.Native.Nat.{_<_};
+ghost use Prim.Native.Nat.{_<_, _≤_};
 ghost use lib.ListN.{length};
 ghost use Rattle.symbols.specs.Symbols.{among, reserved};
-ghost use Rattle.symbols.specs.Pieces.{pieces};
+ghost use Rattle.symbols.specs.Pieces.{LONGEST, pieces};
+use super::letters::in_masks;
 use basics::same;
 
 // As many letters as a word has at most.
 const LONGEST: usize = 21;
+
+// The letters that words begin with, as masks.
+const FIRST_LOW: u64 = 0x0000_0002_0000_0000;
+
+const FIRST_HIGH: u64 = 0x000d_30fa_8008_4114;
+
+// The letters that words end with, as masks.
+const LAST_LOW: u64 = 0x0000_0002_0000_0000;
+
+const LAST_HIGH: u64 = 0x001d_d1e8_8200_1080;
 
 // The words by their lengths, those of one length side by side.
 const WORDS: [u8; 387] =
@@ -57,7 +68,19 @@ fn is_among(name: &[u8], words: &[u8]) -> bool
     false
 }
 
-// A reserved word.
+// A reserved word. The table is laid on the stack at each call.
+fn is_in_table(name: &[u8]) -> bool
+    requires { ⌜ (0 < length (now name)) × (length (now name) ≤ LONGEST) ⌝ }
+    ensures { λ r. ⌜ r ≡ reserved (now (name .entry)) ⌝ }
+{
+    let n = name.len();
+    let words = WORDS;
+    let start = PLACES[n];
+    let end = PLACES[n + 1];
+    is_among(name, &words[start..end])
+}
+
+// A reserved word. Most names are none by their first or last letter, which spares the table.
 pub fn is_reserved(name: &[u8]) -> bool
     ensures { λ r. ⌜ r ≡ reserved (now (name .entry)) ⌝ }
 {
@@ -68,8 +91,11 @@ pub fn is_reserved(name: &[u8]) -> bool
     if LONGEST < n {
         return false;
     }
-    let words = WORDS;
-    let start = PLACES[n];
-    let end = PLACES[n + 1];
-    is_among(name, &words[start..end])
+    if !in_masks(FIRST_LOW, FIRST_HIGH, name[0]) {
+        return false;
+    }
+    if !in_masks(LAST_LOW, LAST_HIGH, name[n - 1]) {
+        return false;
+    }
+    is_in_table(name)
 }
