@@ -8,5 +8,4 @@ pub use letters::has_bar;
 pub use names::is_name;
 pub use names::is_quoted;
 pub use names::is_simple;
-pub use words::is_reserved;
 pub use writing::put_symbol;
