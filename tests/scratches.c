@@ -69,8 +69,9 @@ static int are_cleared(const struct pages *p, size_t cleared, uint8_t dirt) {
 /* One thing that has to hold of the given call with a scratch. */
 static void expect_of(size_t length, enum edge edge, const char *what, int holds) {
     char name[NAME_SIZE];
+    unsigned refused = given.refused == NULL ? LESKOFAR_ACCEPTED : (unsigned)given.refused->refusal;
     int written = snprintf(name, sizeof name, "%s, book refused %u, room for %zu, a scratch of %zu at the %s of its pages: %s",
-                           given.call->name, given.refused == NULL ? 0 : (unsigned)given.refused->refusal, given.room, length, EDGE[edge], what);
+                           given.call->name, refused, given.room, length, EDGE[edge], what);
     stop_if(written < 0 || written >= NAME_SIZE, "name a test");
     expect(name, holds);
 }
