@@ -46,8 +46,8 @@ const char *refusal_meaning(uint32_t refusal) {
     case LESKOFAR_CHECKS_DIFFER:
         return "the script has more or fewer check-sats than there are questions";
     case LESKOFAR_BAD_NAME:
-        return "a type, constant or function has a name that is empty or has a bar or backslash in it, or a literal has one in its text or "
-               "type";
+        return "a type, constant or function has an empty name or one with a bar or backslash inside, or a literal has a bar or backslash "
+               "in its text or type";
     }
     return "a number that no refusal has";
 }
