@@ -1,4 +1,4 @@
-# Books that may hold anything that the book test takes, and what `leskofar check` says of them. For the groups `names`, `symbols` and `sorts`.
+# Books that may hold anything that the book test takes, and what `leskofar check` says of them. For the groups `names` and `sorts`.
 
 raw_flags='--raw-names --raw-sorts'
 

@@ -1,8 +1,5 @@
 # Names that are no simple symbols, as solvers see them: what they answer, what z3 would misread, and what no book may have.
 
-. tests/host/raw_books.sh
-. tests/host/each_command.sh
-
 # A shop's own names, with blanks and digits, in every place that a solver sees.
 cat >"$work/yarns.plan" <<'PLAN'
 (type |yarn shade|)
