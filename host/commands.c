@@ -48,6 +48,12 @@ bool command_names(const char *path, const struct bytes *book, bool is_raw) {
     return goes_on(path, is_good, &complaint, is_raw);
 }
 
+bool command_names_for_z3(const char *path, const struct bytes *book) {
+    struct bytes complaint = {0};
+    bool is_good = names_check_for_z3(book, &complaint);
+    return goes_on(path, is_good, &complaint, false);
+}
+
 bool command_sorts(const char *path, const struct bytes *book, bool is_raw) {
     struct bytes complaint = {0};
     bool is_good = sorts_check(book, &complaint);

@@ -40,4 +40,7 @@ bool command_accepted(const char *path, uint32_t refusal);
 bool command_names(const char *path, const struct bytes *book, bool is_raw);
 bool command_sorts(const char *path, const struct bytes *book, bool is_raw);
 
+/* Whether z3 reads the names as they are meant. Where it does not it may prove what is wrong, so this is never a warning only. */
+bool command_names_for_z3(const char *path, const struct bytes *book);
+
 #endif

@@ -1,6 +1,5 @@
 #include "engines.h"
 
-#include <stdbool.h>
 #include <stddef.h>
 #include <string.h>
 #include <unistd.h>
@@ -11,11 +10,13 @@ struct known {
     struct engine engine; /* with no path before its name */
 };
 
+static const char Z3[] = "z3";
+
 static const struct known KNOWN[] = {
     /* z3 reads SMT-LIB from its standard input. */
-    {"z3", {{"z3", "-smt2", "-in", NULL}}},
+    {Z3, {{Z3, "-smt2", "-in", NULL}, .is_z3 = true}},
     /* cvc5 has to be told of pushes, of models, and which theories to have ready; without the last it warns. */
-    {"cvc5", {{"cvc5", "--lang=smt2", "--incremental", "--produce-models", "--force-logic=ALL", NULL}}}};
+    {"cvc5", {{"cvc5", "--lang=smt2", "--incremental", "--produce-models", "--force-logic=ALL", NULL}, .is_z3 = false}}};
 enum { KNOWN_COUNT = sizeof KNOWN / sizeof KNOWN[0] };
 
 static const char BLANKS[] = " \t";
@@ -68,8 +69,9 @@ struct engine engine_named(const char *name) {
             return engine;
         }
     }
+    bool is_z3 = strstr(name, Z3) != NULL;
     if (is_program(name)) {
-        return (struct engine){{"/bin/sh", "-c", BECOME, "/bin/sh", name, NULL}};
+        return (struct engine){{"/bin/sh", "-c", BECOME, "/bin/sh", name, NULL}, is_z3};
     }
-    return (struct engine){{"/bin/sh", "-c", name, NULL}};
+    return (struct engine){{"/bin/sh", "-c", name, NULL}, is_z3};
 }

@@ -6,8 +6,18 @@
 #include <inttypes.h>
 #include <string.h>
 
-/* What a name is given to. */
+/* What a name is given to: records of three sections, each of which is declared, and two kinds of terms. */
 enum role { ROLE_TYPE, ROLE_CONSTANT, ROLE_FUNCTION, ROLE_LITERAL, ROLE_OPERATOR };
+
+/* Where the names of the first three stand. */
+static const struct {
+    enum section section;
+    uint32_t name_field;
+} DECLARED[] = {
+    [ROLE_TYPE] = {SECTION_TYPES, TYPE_NAME},
+    [ROLE_CONSTANT] = {SECTION_CONSTANTS, CONSTANT_NAME},
+    [ROLE_FUNCTION] = {SECTION_FUNCTIONS, FUNCTION_NAME},
+};
 
 static const char *const ROLES[] = {
     [ROLE_TYPE] = "type",
@@ -23,12 +33,15 @@ static const char INT_NAME[] = "Int";
 static const char BOOL_IN_LITERAL[] = "bool";
 static const char INT_IN_LITERAL[] = "int";
 
-/* A record with a name that the solver sees: the name as it is, and a literal's as |name:type|. */
+/* What stands between a literal's name and its type. */
+enum { COLON = ':' };
+
+/* A record with a name that the solver sees. A literal is sent as |name:type|. */
 struct named {
     enum role role;
     uint32_t record;
-    struct letters name;
-    struct letters symbol; /* the name without bars, by which solvers tell names apart */
+    struct letters name;   /* as the book has it */
+    struct letters symbol; /* without its bars, by which solvers tell names apart */
     uint32_t type;         /* of a literal */
     struct letters type_name;
 };
@@ -48,24 +61,11 @@ static void add_record(struct bytes *complaint, const struct named *named) {
     sentence_add(complaint, "%s %" PRIu32, ROLES[named->role], number);
 }
 
-/* What a record is called, as the solver sees it. */
-static void add_called(struct bytes *complaint, const struct named *named) {
-    if (named->role != ROLE_LITERAL) {
-        sentence_add_quoted(complaint, named->name);
-        return;
-    }
-    sentence_add(complaint, "\"|");
-    sentence_add_name(complaint, named->name);
-    sentence_add(complaint, ":");
-    sentence_add_name(complaint, named->type_name);
-    sentence_add(complaint, "|\"");
-}
-
 /* False, with the complaint about one name. */
 static bool complain_of(struct bytes *complaint, const struct named *named, const char *fault) {
     add_record(complaint, named);
     sentence_add(complaint, " is called ");
-    add_called(complaint, named);
+    sentence_add_quoted(complaint, named->name);
     sentence_add(complaint, ", which %s", fault);
     return false;
 }
@@ -78,80 +78,82 @@ static bool complain_of_both(struct bytes *complaint, const struct named *named,
     sentence_add(complaint, " are both called ");
     sentence_add_name(complaint, named->symbol);
     if (named->role == ROLE_LITERAL) {
-        sentence_add(complaint, ":");
+        sentence_add(complaint, "%c", COLON);
         sentence_add_name(complaint, named->type_name);
     }
     return false;
 }
 
-static bool is_one_token(const struct named *named) {
-    switch (named->role) {
-    case ROLE_LITERAL:
-        return !token_breaks_bars(named->name) && !token_breaks_bars(named->type_name);
-    case ROLE_OPERATOR:
-        return token_is_symbol(named->name) || token_is_number(named->name);
-    default:
-        return token_is_symbol(named->name);
-    }
-}
-
-/* Whether SMT-LIB has a meaning for the name already, other than an operator's for an operator. */
+/* Whether the name of a type, constant or function has a meaning in SMT-LIB already. */
 static bool is_taken(const struct named *named) {
-    switch (named->role) {
-    case ROLE_TYPE:
+    if (named->role == ROLE_TYPE) {
         return letters_are_same(named->symbol, letters_of(BOOL_NAME)) || letters_are_same(named->symbol, letters_of(INT_NAME));
-    case ROLE_CONSTANT:
-    case ROLE_FUNCTION:
-        return token_is_taken(named->symbol);
-    default:
-        return false;
     }
+    return token_is_taken(named->symbol);
 }
 
-/* The first fault of a name by itself; NULL where it has none. */
-static const char *fault_of(const struct named *named) {
-    bool is_literal = named->role == ROLE_LITERAL;
-    bool is_operator = named->role == ROLE_OPERATOR;
-    if (!is_one_token(named)) {
-        return "is not one token of SMT-LIB";
-    }
-    if (!is_literal && !is_operator && token_looks_like_number(named->symbol)) {
-        return "looks like a number";
-    }
-    if (!is_literal && token_is_reserved(named->symbol)) {
-        return "is a reserved word of SMT-LIB";
+/* Of a type, constant or function, which the library sends as a symbol. */
+static const char *fault_of_symbol(const struct named *named) {
+    if (token_looks_like_negative_number(named->symbol)) {
+        return "looks like a negative number";
     }
     return is_taken(named) ? "has a meaning of its own in SMT-LIB" : NULL;
 }
 
-/* Whether a symbol is a literal's name and type with a colon between them. */
-static bool is_symbol_of(struct letters symbol, const struct named *literal) {
-    struct letters name = literal->name;
-    struct letters type = literal->type_name;
-    return symbol.length == name.length + 1 + type.length && symbol.at[name.length] == ':' &&
-           memcmp(symbol.at, name.at, name.length) == 0 && memcmp(symbol.at + name.length + 1, type.at, type.length) == 0;
+/* Of an operator, which the library sends as it is. */
+static const char *fault_of_operator(const struct named *named) {
+    if (!token_is_symbol(named->name) && !token_is_number(named->name)) {
+        return "is not one token of SMT-LIB";
+    }
+    return token_is_reserved(named->symbol) ? "is a reserved word of SMT-LIB" : NULL;
+}
+
+/* The first fault of a name by itself; NULL where it has none. A literal of a book that passes the book test has none. */
+static const char *fault_of(const struct named *named) {
+    switch (named->role) {
+    case ROLE_LITERAL:
+        return NULL;
+    case ROLE_OPERATOR:
+        return fault_of_operator(named);
+    default:
+        return fault_of_symbol(named);
+    }
+}
+
+/* Whether a text is two others with a colon between them, as a literal's name and type stand. */
+static bool is_joined(struct letters text, struct letters first, struct letters second) {
+    return text.length == first.length + 1 + second.length && text.at[first.length] == COLON &&
+           memcmp(text.at, first.at, first.length) == 0 && memcmp(text.at + first.length + 1, second.at, second.length) == 0;
 }
 
 /*
- * Two literals of one type are one literal where they have one name. Of two types they clash where both texts are the same: a type's name
- * has no colon, since types were looked at before, and a literal's type has no bars.
+ * Whether two literals are sent alike, wherever the colon between name and type stands: a of b:c and a:b of c are both |a:b:c|. What the
+ * longer name has more is then the begin of the other one's type.
  */
-static bool do_literals_clash(const struct named *one, const struct named *other) {
-    return one->type != other->type && letters_are_same(one->type_name, other->type_name) && letters_are_same(one->name, other->name);
+static bool are_sent_alike(const struct named *one, const struct named *other) {
+    if (one->name.length == other->name.length) {
+        return letters_are_same(one->name, other->name) && letters_are_same(one->type_name, other->type_name);
+    }
+    const struct named *shorter = one->name.length < other->name.length ? one : other;
+    const struct named *longer = shorter == one ? other : one;
+    size_t shared = shorter->name.length + 1;
+    struct letters more = {longer->name.at + shared, longer->name.length - shared};
+    return is_joined(longer->name, shorter->name, more) && is_joined(shorter->type_name, more, longer->type_name);
 }
 
+/* Two literals of one type are one literal where they have one name. Operators never clash with each other. */
 static bool do_clash(const struct named *one, const struct named *other) {
     if (one->role == ROLE_LITERAL && other->role == ROLE_LITERAL) {
-        return do_literals_clash(one, other);
+        return one->type != other->type && are_sent_alike(one, other);
     }
     if (one->role == ROLE_OPERATOR && other->role == ROLE_OPERATOR) {
         return false;
     }
     if (one->role == ROLE_LITERAL) {
-        return is_symbol_of(other->symbol, one);
+        return is_joined(other->symbol, one->name, one->type_name);
     }
     if (other->role == ROLE_LITERAL) {
-        return is_symbol_of(one->symbol, other);
+        return is_joined(one->symbol, other->name, other->type_name);
     }
     return letters_are_same(one->symbol, other->symbol);
 }
@@ -176,15 +178,20 @@ static struct named named_at(const struct bytes *book, enum role role, enum sect
     return (struct named){.role = role, .record = record, .name = name, .symbol = token_symbol(name)};
 }
 
-/* The names of a section each of whose records has one. */
-static bool take_section(struct space *space, const struct bytes *book, enum role role, enum section section, uint32_t name_field) {
-    uint32_t count = book_count(book, section);
-    for (uint32_t record = 0; record < count; record++) {
-        if (!take(space, named_at(book, role, section, record, name_field))) {
-            return false;
-        }
+static uint32_t declared_count(const struct bytes *book, enum role role) {
+    return book_count(book, DECLARED[role].section);
+}
+
+static struct named declared_at(const struct bytes *book, enum role role, uint32_t record) {
+    return named_at(book, role, DECLARED[role].section, record, DECLARED[role].name_field);
+}
+
+static bool take_declared(struct space *space, const struct bytes *book, enum role role) {
+    bool is_good = true;
+    for (uint32_t record = 0; record < declared_count(book, role) && is_good; record++) {
+        is_good = take(space, declared_at(book, role, record));
     }
-    return true;
+    return is_good;
 }
 
 static struct letters type_in_literal(const struct bytes *book, uint32_t type) {
@@ -200,7 +207,6 @@ static struct letters type_in_literal(const struct bytes *book, uint32_t type) {
 
 static bool take_literal(struct space *space, const struct bytes *book, uint32_t term) {
     struct named literal = named_at(book, ROLE_LITERAL, SECTION_TERMS, term, LITERAL_NAME);
-    literal.symbol = literal.name; /* bars of its own are letters like others, and bad ones */
     literal.type = book_term_field(book, term, LITERAL_TYPE);
     literal.type_name = type_in_literal(book, literal.type);
     return take(space, literal);
@@ -224,11 +230,29 @@ bool names_check(const struct bytes *book, struct bytes *complaint) {
     struct space space;
     space.complaint = complaint;
     space.count = 0;
-    if (!take_section(&space, book, ROLE_TYPE, SECTION_TYPES, TYPE_NAME)) {
+    if (!take_declared(&space, book, ROLE_TYPE)) {
         return false;
     }
     /* Types have a space of their own. */
     space.count = 0;
-    return take_section(&space, book, ROLE_CONSTANT, SECTION_CONSTANTS, CONSTANT_NAME) &&
-           take_section(&space, book, ROLE_FUNCTION, SECTION_FUNCTIONS, FUNCTION_NAME) && take_terms(&space, book);
+    return take_declared(&space, book, ROLE_CONSTANT) && take_declared(&space, book, ROLE_FUNCTION) && take_terms(&space, book);
+}
+
+static bool is_free_for_z3(const struct named *named, struct bytes *complaint) {
+    return !token_is_general_word(named->symbol) ||
+           complain_of(complaint, named, "is a reserved word of SMT-LIB: z3 takes such words for its own, even between bars");
+}
+
+static bool are_free_for_z3(const struct bytes *book, enum role role, struct bytes *complaint) {
+    bool is_good = true;
+    for (uint32_t record = 0; record < declared_count(book, role) && is_good; record++) {
+        struct named named = declared_at(book, role, record);
+        is_good = is_free_for_z3(&named, complaint);
+    }
+    return is_good;
+}
+
+bool names_check_for_z3(const struct bytes *book, struct bytes *complaint) {
+    return are_free_for_z3(book, ROLE_TYPE, complaint) && are_free_for_z3(book, ROLE_CONSTANT, complaint) &&
+           are_free_for_z3(book, ROLE_FUNCTION, complaint);
 }

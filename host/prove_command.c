@@ -92,11 +92,16 @@ static bool are_truths(const struct request *request, const struct bytes *book) 
     return true;
 }
 
+static bool suits_solver(const struct request *request, const struct bytes *book) {
+    return !engine_named(request->inquiry.solver).is_z3 || command_names_for_z3(request->book, book);
+}
+
 /* Everything that can be known before a solver is started: false after a complaint. */
 static bool is_sound(const struct request *request, struct premises_known *known, const struct bytes *book) {
     const struct inquiry *inquiry = &request->inquiry;
-    if (!inquiry_spares(inquiry, request->book, "the book") || !command_names(request->book, book, inquiry->raw_names) ||
-        !command_sorts(request->book, book, inquiry->raw_sorts) || !are_truths(request, book)) {
+    if (!inquiry_spares(inquiry, request->book, "the book") || !suits_solver(request, book) ||
+        !command_names(request->book, book, inquiry->raw_names) || !command_sorts(request->book, book, inquiry->raw_sorts) ||
+        !are_truths(request, book)) {
         return false;
     }
     if (request->asks_premises && !premises_begin(known, book)) {

@@ -1,6 +1,7 @@
 #include "refusals.h"
 
 #include <leskofar.h>
+#include <stdbool.h>
 
 const char *refusal_meaning(uint32_t refusal) {
     switch ((enum leskofar_refusal)refusal) {
@@ -44,10 +45,14 @@ const char *refusal_meaning(uint32_t refusal) {
         return "a line of the script is no command of ours, or pops the first level";
     case LESKOFAR_CHECKS_DIFFER:
         return "the script has more or fewer check-sats than there are questions";
+    case LESKOFAR_BAD_NAME:
+        return "a type, constant or function has an empty name or one with a bar or backslash inside, or a literal has a bar or backslash "
+               "in its text or type";
     }
     return "a number that no refusal has";
 }
 
 const char *refusal_place(uint32_t refusal) {
-    return refusal >= LESKOFAR_BAD_CONTENTS && refusal <= LESKOFAR_TOO_DEEP ? ", as the book would become" : "";
+    bool is_of_book = (refusal >= LESKOFAR_BAD_CONTENTS && refusal <= LESKOFAR_TOO_DEEP) || refusal == LESKOFAR_BAD_NAME;
+    return is_of_book ? ", as the book would become" : "";
 }

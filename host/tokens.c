@@ -8,8 +8,11 @@ static const char BINARY_BEGIN[] = "#b";
 
 enum { BAR = '|', BACKSLASH = '\\', MINUS = '-', POINT = '.', ZERO = '0' };
 
-static const char *const RESERVED[] = {
+static const char *const GENERAL_WORDS[] = {
     "!", "_", "as", "BINARY", "DECIMAL", "exists", "HEXADECIMAL", "forall", "let", "match", "NUMERAL", "par", "STRING",
+};
+
+static const char *const COMMANDS[] = {
     "assert", "check-sat", "check-sat-assuming", "declare-const", "declare-datatype", "declare-datatypes", "declare-fun", "declare-sort",
     "define-fun", "define-fun-rec", "define-funs-rec", "define-sort", "echo", "exit", "get-assertions", "get-assignment", "get-info",
     "get-model", "get-option", "get-proof", "get-unsat-assumptions", "get-unsat-core", "get-value", "pop", "push", "reset",
@@ -17,8 +20,7 @@ static const char *const RESERVED[] = {
 };
 
 static const char *const TAKEN[] = {
-    "true", "false", "ite", "let", "forall", "exists", "=", "=>", "and", "or", "not", "xor", "distinct",
-    "<", "<=", ">", ">=", "+", "-", "*", "div", "mod", "abs",
+    "true", "false", "ite", "=", "=>", "and", "or", "not", "xor", "distinct", "<", "<=", ">", ">=", "+", "-", "*", "div", "mod", "abs",
 };
 
 static bool is_among(struct letters text, const char *const *words, size_t count) {
@@ -82,13 +84,14 @@ struct letters token_symbol(struct letters text) {
     return is_between_bars(text) ? (struct letters){text.at + 1, text.length - 2} : text;
 }
 
-bool token_breaks_bars(struct letters text) {
+/* Whether a text could end or leave the bars that it stands between. */
+static bool breaks_bars(struct letters text) {
     return memchr(text.at, BAR, text.length) != NULL || memchr(text.at, BACKSLASH, text.length) != NULL;
 }
 
 bool token_is_symbol(struct letters text) {
     if (is_between_bars(text)) {
-        return !token_breaks_bars(token_symbol(text));
+        return !breaks_bars(token_symbol(text));
     }
     return is_row_of(text, is_symbol_letter) && !is_digit(text.at[0]);
 }
@@ -115,14 +118,16 @@ bool token_is_number(struct letters text) {
     return is_digits_or_fraction(text) && !has_leading_zero(text);
 }
 
-bool token_looks_like_number(struct letters symbol) {
-    bool has_minus = symbol.length > 0 && symbol.at[0] == MINUS;
-    return is_digits_or_fraction(has_minus ? behind(symbol, 1) : symbol) || begins_with(symbol, HEXADECIMAL_BEGIN) ||
-           begins_with(symbol, BINARY_BEGIN);
+bool token_looks_like_negative_number(struct letters symbol) {
+    return symbol.length > 0 && symbol.at[0] == MINUS && is_digits_or_fraction(behind(symbol, 1));
+}
+
+bool token_is_general_word(struct letters symbol) {
+    return is_among(symbol, GENERAL_WORDS, sizeof GENERAL_WORDS / sizeof GENERAL_WORDS[0]);
 }
 
 bool token_is_reserved(struct letters symbol) {
-    return is_among(symbol, RESERVED, sizeof RESERVED / sizeof RESERVED[0]);
+    return token_is_general_word(symbol) || is_among(symbol, COMMANDS, sizeof COMMANDS / sizeof COMMANDS[0]);
 }
 
 bool token_is_taken(struct letters symbol) {

@@ -13,13 +13,13 @@ bool token_is_symbol(struct letters text);
 /* A numeral, decimal, hexadecimal or binary. */
 bool token_is_number(struct letters text);
 
-/* Whether a text could end or leave the bars that it is put between. */
-bool token_breaks_bars(struct letters text);
+/* Of a text without its bars: what z3 takes for a number where it stands bare, and a reader where a solver prints it in a model. */
+bool token_looks_like_negative_number(struct letters symbol);
 
-/* Of a text without its bars: what some solver takes for a number, or what a reader would. */
-bool token_looks_like_number(struct letters symbol);
+/* Of a text without its bars: a reserved word of SMT-LIB 2.6 that is no command's name. */
+bool token_is_general_word(struct letters symbol);
 
-/* Of a text without its bars: a reserved word of SMT-LIB 2.6, the names of its commands among them. */
+/* The same with the names of the commands, which are reserved too. */
 bool token_is_reserved(struct letters symbol);
 
 /* Of a text without its bars: a word or an operator that already means something in every term. */

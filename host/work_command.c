@@ -65,7 +65,7 @@ static bool may_ask(struct work *work, const struct question *question, const st
     return is_raw;
 }
 
-/* One of the two checks of a whole book. */
+/* One of the checks of a whole book. */
 static bool passes(struct work *work, const struct question *question, bool (*check)(const struct bytes *, struct bytes *), bool is_raw) {
     struct bytes complaint = {0};
     bool is_good = check(&work->writer->book, &complaint) || may_ask(work, question, &complaint, is_raw);
@@ -86,9 +86,14 @@ static bool is_truth(struct work *work, const struct question *question) {
     return is_good;
 }
 
+/* What z3 would misread is refused with --raw-names too. */
+static bool suits_solver(struct work *work, const struct question *question) {
+    return !work->prover.engine.is_z3 || passes(work, question, names_check_for_z3, false);
+}
+
 /* What has been looked at is not looked at again until the book grows. */
 static bool is_sound(struct work *work, const struct question *question) {
-    work->is_checked = work->is_checked || (passes(work, question, names_check, work->inquiry->raw_names) &&
+    work->is_checked = work->is_checked || (suits_solver(work, question) && passes(work, question, names_check, work->inquiry->raw_names) &&
                                             passes(work, question, sorts_check, work->inquiry->raw_sorts));
     return work->is_checked && is_truth(work, question);
 }

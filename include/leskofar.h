@@ -40,7 +40,8 @@ enum leskofar_refusal {
     LESKOFAR_TOO_DEEP_FOR_NARROW = 24, /* the session to be turned back is deeper than 64 */
     LESKOFAR_TAG_IN_BOOK = 25,         /* the book of an audit holds a %tag literal */
     LESKOFAR_FOREIGN_LINE = 26,        /* a line of the script is no command of ours, or pops the first level */
-    LESKOFAR_CHECKS_DIFFER = 27        /* the script has more or fewer check-sats than there are questions */
+    LESKOFAR_CHECKS_DIFFER = 27,       /* the script has more or fewer check-sats than there are questions */
+    LESKOFAR_BAD_NAME = 28,            /* a name that cannot go to a solver: empty, or with a bar or backslash */
 };
 
 /* The least scratch that a call takes: a bit for each of the 1,024 terms that a book may have. It need not be cleared first. */
@@ -61,8 +62,11 @@ enum leskofar_refusal {
 #define LESKOFAR_SESSION_STACK (2048 * 1024)
 
 /*
- * Tests a book: refusals 1 to 6, the first that holds, each decided for the whole book before the next; 0 for a good book.
+ * Tests a book: refusals 1 to 6, then 28, the first that holds, each decided for the whole book before the next; 0 for a good book.
  * Afterwards the scratch is all zero, also where it is longer than it need be; under refusal 1 it is not touched.
+ *
+ * 28 is given for a type, constant or function, used or not, whose name is empty, or has a bar or backslash and does not stand between
+ * two bars with neither inside; and for a literal other than %tag with a bar or backslash anywhere in its text or in its type's name.
  */
 uint32_t leskofar_book_test(const uint8_t *book, size_t book_len, uint8_t *scratch, size_t scratch_len);
 
@@ -73,8 +77,11 @@ typedef struct {
 } leskofar_printed;
 
 /*
- * Prints a term of the book into the text buffer: refusals 1 to 7 and 10, the first that holds. `tag` is the number that the literal
- * %tag stands for. A negative number is a minus applied to a numeral, as SMT-LIB 2.6 has it: -5 is (- 5), a list like any other.
+ * Prints a term of the book into the text buffer: refusals 1 to 6, 28, 7 and 10, the first that holds in this order. `tag` is the
+ * number that the literal %tag stands for. A negative number is a minus applied to a numeral, as SMT-LIB 2.6 has it: -5 is (- 5), a list
+ * like any other. Here, and in every text for a solver, the name of a type, constant or function is a symbol of SMT-LIB 2.6: as it
+ * stands in the book where it is a simple symbol or stands between bars already, else between bars, such as |red 40| and |let|. The
+ * names of built-in operators, and what stands between the bars of a literal, are as in the book.
  * `newlines` is a flag, 0 or any other number: 0 for one line; else each part of a list behind its first is on a line of its own, two
  * spaces deeper than the list, which itself is taken to stand `indent` spaces deep. The text has no line end and no zero byte at its
  * end. Bytes of the buffer behind the text keep what they hold; a refused call changes none at all.
@@ -83,16 +90,16 @@ leskofar_printed leskofar_print(const uint8_t *book, size_t book_len, uint8_t *s
                                 uint32_t newlines, uint64_t indent, uint8_t *text, size_t text_len);
 
 /*
- * Prints the traces of a node and of the nodes above it, from the root down, a line for each that has one: two spaces, the trace, a line
- * end. Node 0, the root, has none. Refusals and buffers as above.
+ * Prints the traces of a node and of the nodes above it, from the root down, a line for each that has one: two spaces, the trace as it
+ * stands in the book, a line end. Node 0, the root, has none. Refusals and buffers as above.
  */
 leskofar_printed leskofar_trace(const uint8_t *book, size_t book_len, uint8_t *scratch, size_t scratch_len, uint32_t node, uint8_t *text,
                                 size_t text_len);
 
 /*
  * Prints what is to be proved where a goal, any term, is asked at a node: the premises from the root down and the goal, each on a line,
- * in B3's notation, where a negative number is -5, and with the names as they stand in the book. Refusals 1 to 7 and 10, the first
- * that holds. Buffers as above.
+ * in B3's notation, where a negative number is -5, and with the names as they stand in the book, without bars of ours. Refusals and
+ * buffers as above.
  */
 leskofar_printed leskofar_listing(const uint8_t *book, size_t book_len, uint8_t *scratch, size_t scratch_len, uint32_t node,
                                   uint32_t goal, uint8_t *text, size_t text_len);
@@ -129,10 +136,10 @@ typedef struct {
 uint32_t leskofar_fresh(uint8_t *image, size_t image_len);
 
 /*
- * Moves the session to a node, 0 for the root: refusals 1 to 7, 20, 21, 9 and 10, the first that holds in this order. The text has
- * (pop 1) for each node up to the deepest shared one, then for each node below it (push 1), the declarations and the assertion; it is
- * empty where the session is there already. An accepted call changes the image. Bytes behind the text keep what they hold; a refused
- * call changes neither the image nor the text.
+ * Moves the session to a node, 0 for the root: refusals 1 to 6, 28, 7, 20, 21, 9 and 10, the first that holds in this order. The
+ * text has (pop 1) for each node up to the deepest shared one, then for each node below it (push 1), the declarations and the assertion,
+ * with names as leskofar_print has them; it is empty where the session is there already. An accepted call changes the image. Bytes behind
+ * the text keep what they hold; a refused call changes neither the image nor the text.
  */
 leskofar_answer leskofar_move(const uint8_t *book, size_t book_len, uint8_t *scratch, size_t scratch_len, uint8_t *image,
                               size_t image_len, uint32_t node, uint8_t *text, size_t text_len);
@@ -146,8 +153,8 @@ leskofar_answer leskofar_ask(const uint8_t *book, size_t book_len, uint8_t *scra
                              size_t image_len, uint32_t node, uint32_t goal, uint8_t *text, size_t text_len);
 
 /*
- * Takes what came of the check: refusals 1 to 6, 20, 22 and 10, in this order. `ok` is a flag, 0 where the check failed; `reply` then is
- * its error text, and the goal is unproved with that text as the reason. Else `reply` is the solver's reply without its line end: the
+ * Takes what came of the check: refusals 1 to 6, 28, 20, 22 and 10, in this order. `ok` is a flag, 0 where the check failed; `reply` then
+ * is its error text, and the goal is unproved with that text as the reason. Else `reply` is the solver's reply without its line end: the
  * five bytes unsat prove the goal; after any other the text is (get-model), and a model is owed. Where the question is closed, the text
  * is two lines (pop 1), 16 bytes. The reason buffer is touched only where there is a reason. A refused call changes neither the image
  * nor the text nor the reason.
@@ -157,8 +164,8 @@ leskofar_answer leskofar_reply(const uint8_t *book, size_t book_len, uint8_t *sc
                                uint8_t *reason, size_t reason_len);
 
 /*
- * Takes the same reply once more, and the model where the flag `has_model` is not 0: refusals 1 to 6, 20, 23, 8 and 10, in this order.
- * The goal is unproved, and the text is the two pops; the reason is the reply and, where a model came, a line end and the model.
+ * Takes the same reply once more, and the model where the flag `has_model` is not 0: refusals 1 to 6, 28, 20, 23, 8 and 10, in this
+ * order. The goal is unproved, and the text is the two pops; the reason is the reply and, where a model came, a line end and the model.
  * Buffers as above.
  */
 leskofar_answer leskofar_model(const uint8_t *book, size_t book_len, uint8_t *scratch, size_t scratch_len, uint8_t *image,
@@ -166,14 +173,14 @@ leskofar_answer leskofar_model(const uint8_t *book, size_t book_len, uint8_t *sc
                                size_t model_len, uint8_t *text, size_t text_len, uint8_t *reason, size_t reason_len);
 
 /*
- * Turns a session of the narrow kind into one that the calls take, with the same node, levels and question: refusals 1 to 6 and 20.
+ * Turns a session of the narrow kind into one that the calls take, with the same node, levels and question: refusals 1 to 6, 28 and 20.
  * 20 also for a narrow session deeper than 64, and where a length is not LESKOFAR_NARROW_IMAGE or LESKOFAR_IMAGE. The narrow image is
  * only read; a refused call does not touch the other.
  */
 uint32_t leskofar_widen(const uint8_t *book, size_t book_len, uint8_t *scratch, size_t scratch_len, const uint8_t *narrow,
                         size_t narrow_len, uint8_t *image, size_t image_len);
 
-/* Turns it back: refusals 1 to 6, 20, then 24 for a session deeper than 64. Lengths and buffers as above. */
+/* Turns it back: refusals 1 to 6, 28, 20, then 24 for a session deeper than 64. Lengths and buffers as above. */
 uint32_t leskofar_narrow(const uint8_t *book, size_t book_len, uint8_t *scratch, size_t scratch_len, const uint8_t *image,
                          size_t image_len, uint8_t *narrow, size_t narrow_len);
 
@@ -194,7 +201,7 @@ typedef struct {
 } leskofar_nodes_tested;
 
 /*
- * Tells beforehand whether a session could move to each node of a list, 0 for the root: refusals 1 to 6, 3 for more than
+ * Tells beforehand whether a session could move to each node of a list, 0 for the root: refusals 1 to 6, 28, 3 for more than
  * LESKOFAR_NODES_MOST numbers, and 7 for a node that is not in the book, wherever it stands in the list; the first that holds in this
  * order. A number has four bytes, little-endian; bytes behind the last whole one count as a number more, which is no node. A node may
  * stand in the list twice; an empty list passes. Of goals nothing is said: a question at such a node may still be refused 9 for its
@@ -218,9 +225,9 @@ typedef struct {
 /*
  * Says whether a script of another writer leaves live, at its k-th check-sat, for every k, just the levels that this library's writer
  * would: as many, and at each the same lines, each as often, in any order (docs/AUDIT.md). `questions` holds node and goal in turn, four
- * bytes each, little-endian; a last question that is cut short is not in the book. Refusals 1 to 7 (3 also for a script longer than
- * LESKOFAR_SCRIPT_MOST), 9, 25, 26 and 27, the first that holds in this order. It has no session and no buffer to write to; afterwards
- * the scratch is all zero, except under 1.
+ * bytes each, little-endian; a last question that is cut short is not in the book. Refusals 1 to 6 (3 also for a script longer than
+ * LESKOFAR_SCRIPT_MOST), 28, 7, 9, 25, 26 and 27, the first that holds in this order. It has no session and no buffer to write to;
+ * afterwards the scratch is all zero, except under 1.
  */
 leskofar_audited leskofar_audit(const uint8_t *book, size_t book_len, uint8_t *scratch, size_t scratch_len, const uint8_t *questions,
                                 size_t questions_len, const uint8_t *script, size_t script_len);
@@ -236,11 +243,11 @@ leskofar_audited leskofar_audit(const uint8_t *book, size_t book_len, uint8_t *s
  * A session of the old book goes on with the new one, also while a reply or model is owed: hand each call the newest book. A call whose
  * node and goal are in the old book has the same outcome on both.
  *
- * Refusals, the first that holds in this order: 1 to 6 for the book received; 7 where leskofar_append_node or one of the last four is
- * given a parent or a term that is not in it, and for nothing else; 3, 4, 5 and 6 for the book as it would become, each for the whole
- * book before the next; 10 where that is longer than its buffer. So a name, type, constant, function, pattern, trace number or child
- * that is not there is 4, a term that is its own child 5, and a term that is referred to already 5. Afterwards the scratch is all zero,
- * except under 1.
+ * Refusals, the first that holds in this order: 1 to 6 and 28 for the book received; 7 where leskofar_append_node or one of the last
+ * four is given a parent or a term that is not in it, and for nothing else; 3, 4, 5, 6 and 28 for the book as it would become, each for
+ * the whole book before the next; 10 where that is longer than its buffer. So a name, type, constant, function, pattern, trace number or
+ * child that is not there is 4, a term that is its own child 5, a term that is referred to already 5, and a constant with an empty name
+ * 28, but not the name alone. Afterwards the scratch is all zero, except under 1.
  */
 
 /* Bytes of a buffer that is enough for every book. */

@@ -46,7 +46,7 @@ library() { # words for the comparison...
     counted 'comparison' cargo run --quiet --offline --release --manifest-path compare/Cargo.toml -- "$@"
     part 'the library, from C'
     for test in capi scratches references sessions turns turns_images turns_depths turns_sessions nodes audit audit_lines audit_refusals \
-        audit_edges growth growth_cases growth_long growth_terms growth_sessions stack; do
+        audit_edges growth growth_cases growth_long growth_terms growth_sessions symbols symbol_names bad_names bad_names_order stack; do
         compiled "tests/$test.c" "target/$test" -pthread -Iinclude target/staticlib/libleskofar.a
     done
 }

@@ -16,7 +16,7 @@ reference
 library
 
 part 'the host, with z3, cvc5 and solvers that fail'
-host_by_hand() { env PARTS='usage names sorts samples nodes audit growth lines work depths faults attacks limits stack engines' tests/host.sh; }
+host_by_hand() { env PARTS='usage names symbols bad_names sorts samples nodes audit growth lines work depths faults attacks limits stack engines' tests/host.sh; }
 host_at_random() { env PARTS='verdicts kills mutants splices plans' tests/host.sh; }
 # A host that is slower: fewer inputs, and for signals more time.
 host_sanitized() {

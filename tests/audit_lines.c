@@ -133,22 +133,36 @@ static void pop_tests(void) {
     expect("one pop too many behind one that differs", refuses(LESKOFAR_FOREIGN_LINE));
 }
 
-/* Our own text, with names as the book has them: some make lines that are no commands. */
+/* Our own text of a question, and another one. */
+static void own_test(const char *name, uint32_t node, uint32_t goal, uint32_t refusal) {
+    int is_bad = refusal == LESKOFAR_BAD_NAME;
+    lay_book(&records);
+    put_own(node, goal);
+    expect(name, (desk.script_len > 0) == !is_bad && refuses(refusal));
+    put_text(OF_TRUE CHECK);
+    expect(name, is_bad ? refuses(refusal) : rejects_at(1));
+}
+
+/*
+ * A constant's name is a symbol there, which no line breaks at, or the book is refused. An operator's is as the book has it, and some make
+ * lines that are no commands.
+ */
 static void name_tests(void) {
     static const struct {
         const char *name;
-        int is_good;
-    } names[] = {{"|a b|", 1}, {"|a;b|", 1}, {"|(|", 1}, {"|)|", 1}, {"|\"|", 1}, {"a b", 1}, {"a'b", 1}, {"(a)", 1}, {"|a||b|", 1},
-                 {"a;b", 0},   {"a\"b", 0},  {"a|b", 0}, {"(", 0},   {")", 0},    {"a)b", 0}, {"|;", 0},  {"", 1}};
+        int is_symbol;
+        int keeps_line;
+    } names[] = {{"|a b|", 1, 1}, {"|a;b|", 1, 1}, {"|(|", 1, 1}, {"|)|", 1, 1}, {"|\"|", 1, 1}, {"a b", 1, 1},
+                 {"a'b", 1, 1},   {"(a)", 1, 1},   {"a;b", 1, 0}, {"a\"b", 1, 0}, {"(", 1, 0},    {")", 1, 0},
+                 {"a)b", 1, 0},   {"|a||b|", 0, 1}, {"", 0, 1},   {"a|b", 0, 0},  {"|;", 0, 0}};
     for (size_t i = 0; i < sizeof names / sizeof names[0]; i++) {
         small_records(&records);
         add_name(&records, names[i].name);
-        records.numbers[CONSTANTS][0] = (uint32_t)records.counts[NAMES] - 1;
-        lay_book(&records);
-        put_own(CONSTANT_NODE, OTHER_GOAL);
-        expect(names[i].name, desk.script_len > 0 && refuses(names[i].is_good ? LESKOFAR_ACCEPTED : LESKOFAR_FOREIGN_LINE));
-        put_text(OF_TRUE CHECK);
-        expect(names[i].name, rejects_at(1));
+        const uint32_t name = (uint32_t)records.counts[NAMES] - 1;
+        ADD(&records, TERMS, BUILT_IN, name);
+        own_test(names[i].name, ROOT, LAST_TERM + 1, names[i].keeps_line ? LESKOFAR_ACCEPTED : LESKOFAR_FOREIGN_LINE);
+        records.numbers[CONSTANTS][0] = name;
+        own_test(names[i].name, CONSTANT_NODE, OTHER_GOAL, names[i].is_symbol ? LESKOFAR_ACCEPTED : LESKOFAR_BAD_NAME);
     }
 }
 

@@ -10,6 +10,7 @@ enum fault {
     BAD_TYPE,
     TERM_TWICE,
     DEEP_NODE,
+    EMPTY_NAME,
     OUTSIDE,
     LOST_QUESTION,
     TAG,
@@ -26,6 +27,7 @@ static const uint32_t refusal_of[FAULTS + 1] = {
     [BAD_TYPE] = LESKOFAR_FIELD_OUT_OF_RANGE,
     [TERM_TWICE] = LESKOFAR_NO_FOREST,
     [DEEP_NODE] = LESKOFAR_TOO_DEEP,
+    [EMPTY_NAME] = LESKOFAR_BAD_NAME,
     [OUTSIDE] = LESKOFAR_NOT_IN_BOOK,
     [LOST_QUESTION] = LESKOFAR_MISSING_AXIOM,
     [TAG] = LESKOFAR_TAG_IN_BOOK,
@@ -64,6 +66,10 @@ static void lay_faulty_book(unsigned set) {
     }
     if (has(set, DEEP_NODE)) {
         add_deep_node(&records);
+    }
+    if (has(set, EMPTY_NAME)) {
+        add_name(&records, "");
+        ADD(&records, CONSTANTS, (uint32_t)records.counts[NAMES] - 1, INT);
     }
     while (has(set, MANY_TYPES) && records.counts[TYPES] <= MOST[TYPES]) {
         ADD(&records, TYPES, TYPE_NAME);
@@ -274,7 +280,7 @@ static void tag_tests(void) {
         ADD(&records, TERMS, LITERAL, (uint32_t)records.counts[NAMES] - 1, BOOL);
         lay_book(&records);
         put_own(TWICE_NODE, TRUE_GOAL);
-        expect("a literal that is nearly %tag", accepts());
+        expect("a literal that is nearly %tag", strchr(near[i], '|') == NULL ? accepts() : refuses(LESKOFAR_BAD_NAME));
     }
 }
 

@@ -51,13 +51,14 @@ static void buffer_tests(const struct growth_call *call) {
 /* Whatever else is wrong with the call, the book received comes first. */
 static void received_tests(const struct growth_call *call) {
     static struct records r;
-    for (uint32_t refusal = LESKOFAR_SHORT_SCRATCH; refusal <= LESKOFAR_TOO_DEEP; refusal++) {
+    for (int i = 0; i < REFUSED_BOOK_COUNT; i++) {
+        const struct refused_book *book = &REFUSED_BOOKS[i];
         r = small;
-        LEND_REFUSED[refusal](&lent, &r);
-        expect(call->name, was_refused(&lent, call->call(&lent), refusal));
+        book->lend(&lent, &r);
+        expect(call->name, was_refused(&lent, call->call(&lent), book->refusal));
         lent.new_len = 0;
         memset(lent.scratch, FILL, sizeof lent.scratch);
-        expect(call->name, was_refused(&lent, call->call(&lent), refusal));
+        expect(call->name, was_refused(&lent, call->call(&lent), book->refusal));
     }
 }
 

@@ -161,6 +161,28 @@ book_of() { # sample
     pairs=$(cut -d ' ' -f 1,2 "$work/$1.goals" | tr '\n' ' ')
 }
 
+# A plan as a book, with its goals' numbers. With words: options of the plan tool.
+made() { # name [option...]
+    made_name=$1
+    shift
+    "$TOOLS/plan" book "$work/$made_name.plan" -o "$work/$made_name.book" --goals "$@" >"$work/$made_name.goals" 2>"$err" || {
+        fail "$made_name" "no book: $(cat "$err")"
+        return
+    }
+    pairs=$(cut -d ' ' -f 1,2 "$work/$made_name.goals" | tr '\n' ' ')
+}
+
+# The last run's log, run again as a script, gives the replies that the run told.
+again() { # name solver log
+    case $2 in
+        z3) z3 -smt2 "$3" ;;
+        cvc5) cvc5 --lang=smt2 --incremental --produce-models --force-logic=ALL "$3" ;;
+    esac | grep -x 'sat\|unsat\|unknown' >"$work/replayed"
+    sed -n -e 's/^node .*: Proved.*/unsat/p' -e 's/^node .*: Unproved (\([a-z]*\)).*/\1/p' "$out" >"$work/wanted"
+    [ -s "$work/wanted" ] && cmp -s "$work/replayed" "$work/wanted" && passed=$((passed + 1)) ||
+        fail "$1" "run again: $(tr '\n' ' ' <"$work/replayed") and not $(tr '\n' ' ' <"$work/wanted")"
+}
+
 # The sections of a book, the letters being the first, and how many records one has.
 NAMES=2
 TERMS=8
@@ -199,7 +221,7 @@ hangs() { # solver [text...]
     seconds=$ENOUGH
 }
 
-for group in ${PARTS:-usage names sorts verdicts samples nodes audit growth lines work depths faults attacks limits kills stack engines mutants splices plans}; do
+for group in ${PARTS:-usage names symbols bad_names sorts verdicts samples nodes audit growth lines work depths faults attacks limits kills stack engines mutants splices plans}; do
     . "tests/host/$group.sh"
 done
 

@@ -18,6 +18,11 @@ enum { LOST, LINKED, PLAIN, WAITING, FUNCTIONS };
 /* The nodes are called by what they apply, or by where they are. */
 enum { ROOT, TOP, PLAIN_NODE, LOST_NODE, BELOW_LOST, LINKED_NODE, ALONE, BELOW_PLAIN, BESIDE, NODES = BESIDE };
 
+static const char LETTERS[] = "xlkpw";
+
+/* Where the first name has its length, behind all letters and its own start. */
+enum { FIRST_LENGTH = CONTENTS + sizeof LETTERS - 1 + NUMBER };
+
 static size_t sample_book(uint8_t *book) {
     static const uint32_t names[] = {0, 1, 1, 1, 2, 1, 3, 1, 4, 1};
     static const uint32_t constants[] = {0, 1};
@@ -35,7 +40,7 @@ static size_t sample_book(uint8_t *book) {
         {axioms, 3, 3}, {NULL, 0, 0}, {terms[0], 10, 7}, {contexts[0], NODES, 3},
         {lists, 5, 1},
     };
-    return write_book(book, "xlkpw", sections);
+    return write_book(book, LETTERS, sections);
 }
 
 static uint8_t book[BOOK_SIZE];
@@ -137,6 +142,9 @@ static void refusal_tests(void) {
     expect("a short scratch", refused(TEST(TOP), LESKOFAR_SHORT_SCRATCH));
     scratch_len = LESKOFAR_SCRATCH;
     expect("a scratch just long enough", passes(TEST(TOP)));
+    put_number(book + FIRST_LENGTH, 0);
+    expect("a name without letters, and too many", refused(test_nodes(long_and_outside, LESKOFAR_NODES_MOST + 1), LESKOFAR_BAD_NAME));
+    expect("a name without letters, and one outside", refused(TEST(NODES + 1), LESKOFAR_BAD_NAME));
 }
 
 /* NULL stands for every empty buffer. */

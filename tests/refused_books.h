@@ -32,19 +32,27 @@ static inline void too_deep(struct lent *l, struct records *r) {
     lend(l, r);
 }
 
+/* Of a constant that nobody uses. */
+static inline void empty_name(struct lent *l, struct records *r) {
+    add_name(r, "");
+    ADD(r, CONSTANTS, (uint32_t)r->counts[NAMES] - 1, INT_TYPE);
+    lend(l, r);
+}
+
 static inline void short_scratch(struct lent *l, struct records *r) {
     no_forest(l, r);
     l->scratch_len = LESKOFAR_SCRATCH - 1;
 }
 
-/* Lends such a book; for the first refusal the scratch is short besides. */
-static void (*const LEND_REFUSED[])(struct lent *, struct records *) = {
-    [LESKOFAR_SHORT_SCRATCH] = short_scratch,
-    [LESKOFAR_BAD_CONTENTS] = bad_contents,
-    [LESKOFAR_COUNT_OVER_LIMIT] = too_many,
-    [LESKOFAR_FIELD_OUT_OF_RANGE] = bad_letter,
-    [LESKOFAR_NO_FOREST] = no_forest,
-    [LESKOFAR_TOO_DEEP] = too_deep,
+/* In the order of the refusals; for the first one the scratch is short besides. */
+static const struct refused_book {
+    uint32_t refusal;
+    void (*lend)(struct lent *, struct records *);
+} REFUSED_BOOKS[] = {
+    {LESKOFAR_SHORT_SCRATCH, short_scratch},  {LESKOFAR_BAD_CONTENTS, bad_contents}, {LESKOFAR_COUNT_OVER_LIMIT, too_many},
+    {LESKOFAR_FIELD_OUT_OF_RANGE, bad_letter}, {LESKOFAR_NO_FOREST, no_forest},       {LESKOFAR_TOO_DEEP, too_deep},
+    {LESKOFAR_BAD_NAME, empty_name},
 };
+enum { REFUSED_BOOK_COUNT = sizeof REFUSED_BOOKS / sizeof REFUSED_BOOKS[0] };
 
 #endif

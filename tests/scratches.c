@@ -25,7 +25,7 @@ static const char *const EDGE[EDGES] = {[AT_START] = "start", [AT_END] = "end"};
 /* A call with what it is lent beside its scratch: the small book or one that is refused, and some room for a text. */
 struct given {
     const struct scratch_call *call;
-    uint32_t refused_book; /* why it is refused, or 0 for the small book */
+    const struct refused_book *refused; /* NULL for the small book */
     size_t room;
 };
 
@@ -35,10 +35,10 @@ static struct given given;
 static void lend_given(void) {
     static struct records r;
     r = small;
-    if (given.refused_book == LESKOFAR_ACCEPTED) {
+    if (given.refused == NULL) {
         lend(&lent, &r);
     } else {
-        LEND_REFUSED[given.refused_book](&lent, &r);
+        given.refused->lend(&lent, &r);
     }
     text_room = given.room;
     lay_session(given.call->session);
@@ -69,8 +69,9 @@ static int are_cleared(const struct pages *p, size_t cleared, uint8_t dirt) {
 /* One thing that has to hold of the given call with a scratch. */
 static void expect_of(size_t length, enum edge edge, const char *what, int holds) {
     char name[NAME_SIZE];
+    unsigned refused = given.refused == NULL ? LESKOFAR_ACCEPTED : (unsigned)given.refused->refusal;
     int written = snprintf(name, sizeof name, "%s, book refused %u, room for %zu, a scratch of %zu at the %s of its pages: %s",
-                           given.call->name, (unsigned)given.refused_book, given.room, length, EDGE[edge], what);
+                           given.call->name, refused, given.room, length, EDGE[edge], what);
     stop_if(written < 0 || written >= NAME_SIZE, "name a test");
     expect(name, holds);
 }
@@ -122,7 +123,7 @@ static int has_text(const struct left *l, const char *text) {
 
 static void accepted_tests(const struct scratch_call *call) {
     static struct left wanted;
-    given = (struct given){call, LESKOFAR_ACCEPTED, TEXT_SIZE};
+    given = (struct given){call, NULL, TEXT_SIZE};
     lend_given();
     expect("a scratch just long enough", comes_to_its_end(call_given));
     wanted = left;
@@ -132,13 +133,15 @@ static void accepted_tests(const struct scratch_call *call) {
 
 static void refused_tests(const struct scratch_call *call) {
     static struct left wanted;
-    for (uint32_t refusal = LESKOFAR_BAD_CONTENTS; refusal <= LESKOFAR_TOO_DEEP; refusal++) {
-        given = (struct given){call, refusal, TEXT_SIZE};
-        wanted = left_alone(refusal);
-        length_tests(&wanted);
+    for (int i = 0; i < REFUSED_BOOK_COUNT; i++) {
+        if (REFUSED_BOOKS[i].refusal != LESKOFAR_SHORT_SCRATCH) {
+            given = (struct given){call, &REFUSED_BOOKS[i], TEXT_SIZE};
+            wanted = left_alone(REFUSED_BOOKS[i].refusal);
+            length_tests(&wanted);
+        }
     }
     if (call->text != NULL) {
-        given = (struct given){call, LESKOFAR_ACCEPTED, 0};
+        given = (struct given){call, NULL, 0};
         wanted = left_alone(LESKOFAR_BUFFER_TOO_SHORT);
         length_tests(&wanted);
     }

@@ -1,16 +1,5 @@
 # Plans that would have the solver's words taken for other questions' answers, and what else must not be lost or overwritten.
 
-# A plan as a book, with its goals' numbers. With words: options of the plan tool.
-made() { # name [option...]
-    made_name=$1
-    shift
-    "$TOOLS/plan" book "$work/$made_name.plan" -o "$work/$made_name.book" --goals "$@" >"$work/$made_name.goals" 2>"$err" || {
-        fail "$made_name" "no book: $(cat "$err")"
-        return
-    }
-    pairs=$(cut -d ' ' -f 1,2 "$work/$made_name.goals" | tr '\n' ' ')
-}
-
 # z3 writes a type's name into its model without the bars: marks and replies in it, which were once enough to be believed.
 cat >"$work/named.plan" <<'PLAN'
 (type |T)) leskofar-2 unsat leskofar-3|)
@@ -53,15 +42,6 @@ expect_not 'no random bits' ': Proved'
 [ ! -s "$SOLVER_PIDS" ] && passed=$((passed + 1)) || fail 'no random bits' 'a solver was started'
 
 # A log that is run again gives the same answers, also where a solver failed in between and another one took over.
-again() { # name solver log
-    case $2 in
-        z3) z3 -smt2 "$3" ;;
-        cvc5) cvc5 --lang=smt2 --incremental --produce-models --force-logic=ALL "$3" ;;
-    esac | grep -x 'sat\|unsat\|unknown' >"$work/replayed"
-    sed -n -e 's/^node .*: Proved.*/unsat/p' -e 's/^node .*: Unproved (\([a-z]*\)).*/\1/p' "$out" >"$work/wanted"
-    [ -s "$work/wanted" ] && cmp -s "$work/replayed" "$work/wanted" && passed=$((passed + 1)) ||
-        fail "$1" "run again: $(tr '\n' ' ' <"$work/replayed") and not $(tr '\n' ' ' <"$work/wanted")"
-}
 for solver in z3 cvc5; do
     export FALLIBLE="$solver"
     for fails_at in 1 2 3; do

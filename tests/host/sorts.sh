@@ -94,8 +94,8 @@ done <<'TERMS'
 (= x b)@term 2: argument 2 of = must be Int, found Bool
 (= b b x)@term 3: argument 3 of = must be Bool, found Int
 (= t x)@term 2: argument 2 of = must be T, found Int
-(= t u)@term 2: argument 2 of = must be T, found |my type|
-(= u t)@term 2: argument 2 of = must be |my type|, found T
+(= t u)@term 2: argument 2 of = must be T, found my type
+(= u t)@term 2: argument 2 of = must be my type, found T
 (= (builtin "y") x (builtin "z") b)@term 4: argument 4 of = must be Int, found Bool
 (distinct x)@term 1: distinct takes 2 or more arguments, found 1
 (distinct x x b)@term 3: argument 3 of distinct must be Int, found Bool
@@ -158,12 +158,12 @@ i@term 0: i takes 1 argument, found 0
 (= (f x b t) x)@term 5: argument 2 of = must be T, found Int
 (ite x x x)@term 3: the condition of ite must be Bool, found Int
 (ite b x b)@term 3: the second branch of ite must be Int, found Bool
-(ite b u t)@term 3: the second branch of ite must be |my type|, found T
+(ite b u t)@term 3: the second branch of ite must be my type, found T
 (+ (ite b b b) x)@term 5: argument 1 of + must be Int, found Bool
 (and (ite b (builtin "z") x) b)@term 5: argument 1 of and must be Bool, found Int
 (and (ite b x (builtin "z")) b)@term 5: argument 1 of and must be Bool, found Int
 (let ((x b)) b)@term 2: the value in let must be Int, found Bool
-(let ((t u)) b)@term 2: the value in let must be T, found |my type|
+(let ((t u)) b)@term 2: the value in let must be T, found my type
 (+ (let ((x 1)) b) x)@term 4: argument 1 of + must be Int, found Bool
 (forall ((x Int)) x)@term 1: the body of forall must be Bool, found Int
 (exists ((x Int)) t)@term 1: the body of exists must be Bool, found T
@@ -187,12 +187,12 @@ bad_sorts 'terms come first' "$declared (node n root 5) (term q (and b))" 'term 
 bad_sorts 'the first of two' "$declared (term q (and b)) (term r (or b))" 'term 1: and takes 2'
 
 # Names come before sorts, and each flag is for its own.
-raw_book 'both' '(constant c Int :name "a b") (term q (and c))'
+raw_book 'both' '(constant c Int :name "-5") (term q (and c))'
 run check "$raw"
-expect 'bad names and sorts' 2 'is not one token'
+expect 'bad names and sorts' 2 'looks like a negative number'
 expect_not 'bad names and sorts' 'takes 2'
 run check "$raw" --raw-sorts
-expect 'bad names and sorts with --raw-sorts' 2 'is not one token'
+expect 'bad names and sorts with --raw-sorts' 2 'looks like a negative number'
 expect_not 'bad names and sorts with --raw-sorts' 'warning'
 run check --raw-names "$raw"
 expect 'bad names and sorts with --raw-names' 2 "$raw: warning: constant 0 is called" "$raw: term 1: and takes 2"

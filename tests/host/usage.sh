@@ -1,11 +1,12 @@
 # Commands, options, help, refusals and what is printed.
 
+. tests/host/each_command.sh
+
 book_of siblings
 book=$work/siblings.book
 
 run --help
 expect 'help' 0 'usage: leskofar COMMAND'
-commands='check print trace listing nodes audit prove new append extend equate record point work'
 [ "$(sed -n 's/^  \([a-z][a-z]*\) .*/\1/p' "$out" | tr '\n' ' ')" = "$commands " ] && passed=$((passed + 1)) ||
     fail 'help' 'other commands, or another order'
 for command in $commands; do
@@ -26,19 +27,8 @@ expect 'a wrong command' 2 'there is no command proof'
 run check "$book"
 expect 'a good book' 0 'a good book'
 head -c 79 "$book" >"$work/short.book"
-for command in $commands; do
-    case $command in
-        new) continue ;;
-        check | work) run "$command" "$work/short.book" ;;
-        audit) run audit "$work/short.book" /dev/null 1 1 ;;
-        listing | prove) run "$command" "$work/short.book" 1 1 ;;
-        append) run append name "$work/short.book" x -o "$work/grown.book" ;;
-        equate | record) run "$command" "$work/short.book" 0 0 0 -o "$work/grown.book" ;;
-        extend | point) run "$command" "$work/short.book" 0 0 -o "$work/grown.book" ;;
-        *) run "$command" "$work/short.book" 1 ;;
-    esac
-    expect "$command refuses a book cut short" 2 'refused 2: the book is under 80 bytes, or its table of contents is not as laid out'
-done
+refused_by_all 'a book cut short' "$work/short.book" \
+    'refused 2: the book is under 80 bytes, or its table of contents is not as laid out'
 head -c 2000000 /dev/zero >"$work/long.book"
 run check "$work/long.book"
 expect 'a file too long for a book' 2 'no book is longer'
