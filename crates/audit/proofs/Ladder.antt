@@ -19,6 +19,7 @@ use Rattle.book.specs.Decode.{program}
 use Rattle.book_contents.specs.Contents.{laidOut, countsFit}
 use Rattle.book_forest.specs.Forest.{isForest}
 use Rattle.book_depth.specs.Depth.{shallow}
+use Rattle.book_names.specs.Names.{namesGood}
 use Rattle.book_test.specs.BookTest.{inRange, bookTest, ready, testedValue, bookTestCall}
 use Rattle.book_test.specs.declared.Tested.{Tested}
 use Rattle.book_test.specs.declared.Tested.the-variants as tested
@@ -51,29 +52,31 @@ unfoldable pub lowered : (long : Bool) → Outcome (Unit {0}) → Outcome (Unit 
 lowered long (refused k) = refused (withScript long k)
 lowered long (accepted u) = accepted u
 
-three-in-place : {A : Type 0} (c1 c2 c3 long c4 c5 c6 : Bool) (rest : Outcome A)
-    → (refuse 1 c1 >> refuse 2 c2 >> refuse 3 (c3 || long) >> refuse 4 c4 >> refuse 5 c5 >> refuse 6 c6 >> rest)
-    ≡ (lowered long (refuse 1 c1 >> refuse 2 c2 >> refuse 3 c3 >> refuse 4 c4 >> refuse 5 c5 >> refuse 6 c6 >> accepted tt) >> refuse 3 long >> rest)
+three-in-place : {A : Type 0} (c1 c2 c3 long c4 c5 c6 c28 : Bool) (rest : Outcome A)
+    → (refuse 1 c1 >> refuse 2 c2 >> refuse 3 (c3 || long) >> refuse 4 c4 >> refuse 5 c5 >> refuse 6 c6 >> refuse 28 c28 >> rest)
+    ≡ (lowered long (refuse 1 c1 >> refuse 2 c2 >> refuse 3 c3 >> refuse 4 c4 >> refuse 5 c5 >> refuse 6 c6 >> refuse 28 c28 >> accepted tt) >> refuse 3 long >> rest)
 unfolding lowered refuse _>>_ withScript
-three-in-place true c2 c3 true c4 c5 c6 rest = refl
-three-in-place true c2 c3 false c4 c5 c6 rest = refl
-three-in-place false true c3 true c4 c5 c6 rest = refl
-three-in-place false true c3 false c4 c5 c6 rest = refl
-three-in-place false false true true c4 c5 c6 rest = refl
-three-in-place false false true false c4 c5 c6 rest = refl
-three-in-place false false false true true c5 c6 rest = refl
-three-in-place false false false true false true c6 rest = refl
-three-in-place false false false true false false true rest = refl
-three-in-place false false false true false false false rest = refl
-three-in-place false false false false true c5 c6 rest = refl
-three-in-place false false false false false true c6 rest = refl
-three-in-place false false false false false false true rest = refl
-three-in-place false false false false false false false rest = refl
+three-in-place true c2 c3 true c4 c5 c6 c28 rest = refl
+three-in-place true c2 c3 false c4 c5 c6 c28 rest = refl
+three-in-place false true c3 true c4 c5 c6 c28 rest = refl
+three-in-place false true c3 false c4 c5 c6 c28 rest = refl
+three-in-place false false true true c4 c5 c6 c28 rest = refl
+three-in-place false false true false c4 c5 c6 c28 rest = refl
+three-in-place false false false true true c5 c6 c28 rest = refl
+three-in-place false false false true false true c6 c28 rest = refl
+three-in-place false false false true false false true c28 rest = refl
+three-in-place false false false true false false false true rest = refl
+three-in-place false false false true false false false false rest = refl
+three-in-place false false false false true c5 c6 c28 rest = refl
+three-in-place false false false false false true c6 c28 rest = refl
+three-in-place false false false false false false true c28 rest = refl
+three-in-place false false false false false false false true rest = refl
+three-in-place false false false false false false false false rest = refl
 
 pub by-book-test : (n : ℕ) (b : Book) (ns : List ℕ) (s : Text) → audited n b ns s ≡ (lowered (isLong s) (ready n b) >> auditIn b ns s)
 unfolding audited ready bookTest auditIn checksIn isLong
 by-book-test n b ns s =
-    three-in-place (ltb n scratchLeast) (not (laidOut b)) (not (countsFit b)) (isLong s) (not (inRange b)) (not (isForest b)) (not (shallow b)) _
+    three-in-place (ltb n scratchLeast) (not (laidOut b)) (not (countsFit b)) (isLong s) (not (inRange b)) (not (isForest b)) (not (shallow b)) (not (namesGood b)) _
 
 -- ---- the whole call
 module _ (b : Book) (scratch questions : List ℕ) (s : Text) {d : Tested} {after : List ℕ}

@@ -17,6 +17,7 @@ use Rattle.book.specs.Decode.{program}
 use Rattle.book_contents.specs.Contents.{laidOut, countsFit}
 use Rattle.book_forest.specs.Forest.{isForest}
 use Rattle.book_depth.specs.Depth.{shallow}
+use Rattle.book_names.specs.Names.{namesGood}
 use Rattle.book_test.specs.BookTest.{inRange}
 use Rattle.number_lists.specs.Numbers.{numbers}
 use Rattle.smt_engines.specs.Reader.{Stack}
@@ -58,6 +59,7 @@ audited scratch b numbers script = do
   refuse 4 (not (inRange b))
   refuse 5 (not (isForest b))
   refuse 6 (not (shallow b))
+  refuse 28 (not (namesGood b))
   refuse 7 (not (all qs (isInside b)))
   refuse 9 (not (all qs (isComplete b)))
   refuse 25 (not (all (program b .literals) hasNoTag))

@@ -68,12 +68,13 @@ says scratch t qs x =
     (may Says 4 _ _ (omega arith)
     (may Says 5 _ _ (omega arith)
     (may Says 6 _ _ (omega arith)
+    (may Says 28 _ _ (omega arith)
     (past Says 7 _ (ap not (all-inside b (x .opens)))
     (past Says 9 _ (ap not (all-complete b (x .opens)))
     (may Says 25 _ _ (omega arith)
     (may Says 26 _ _ (omega arith)
     (past Says 27 _ (ap not (eq-eqb (length (checks (t .text))) (length qs) even))
-    (rw (x .seen) (agree-own b 1 qs)))))))))))))
+    (rw (x .seen) (agree-own b 1 qs))))))))))))))
 
 pub own-scripts : (b : Book) (es : List Event) → OwnScripts b es
 own-scripts b es =

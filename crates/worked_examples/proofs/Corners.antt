@@ -194,7 +194,7 @@ declared =
     -- the two literals the other way round
     ∷ (
       after literals (1 ∷ 2 ∷ []) 3,
-      call (writes 120 0 (session 3 0 Nothing (levels ((1, 1) ∷ (literalPlaces + 6, 1) ∷ []))) (ascii "(pop 1)\n(pop 1)\n(push 1)\n(declare-sort b:c 0)\n(declare-fun |a:b:c| () b:c)\n(assert (= |a:b:c| |a:b:c|))\n")),
+      call (writes 120 0 (session 3 0 Nothing (levels ((1, 1) ∷ (literalPlaces + 6, 1) ∷ []))) (ascii "(pop 1)\n(pop 1)\n(push 1)\n(declare-sort |b:c| 0)\n(declare-fun |a:b:c| () |b:c|)\n(assert (= |a:b:c| |a:b:c|))\n")),
     )
     -- literals of Bool and Int, R 15; %tag where nothing is declared
     ∷ (
