@@ -1,8 +1,10 @@
-//! The rules of names: which are one token, and which clash.
+//! The rules of names: which can go to a solver, which are one token, and which
+//! clash.
 
 use leskofar_reference::book::{BOOL, INT};
 use leskofar_reference::maker::Maker;
-use leskofar_reference::plan::{check_book, read, Complaint, Options, PlanError};
+use leskofar_reference::plan::{check_book, read, refused_names, Complaint, Options, PlanError};
+use leskofar_reference::refusal::BAD_NAME;
 
 const RAW_NAMES: Options = Options {
     raw_names: true,
@@ -16,6 +18,17 @@ fn error(text: &str) -> Option<PlanError> {
     let plan = read(text.as_bytes(), RAW_NAMES).expect(text);
     assert_eq!(plan.warnings, [error.clone()], "{text}");
     Some(error)
+}
+
+/// The error of a plan with a name that no book takes, raw or not.
+fn refused(text: &str) -> PlanError {
+    let error = read(text.as_bytes(), Options::default()).expect_err(text);
+    assert_eq!(
+        read(text.as_bytes(), Options::RAW).err().as_ref(),
+        Some(&error),
+        "{text}"
+    );
+    error
 }
 
 fn assert_verdicts(item: impl Fn(&str) -> String, good: &[&str], bad: &[(&str, &[&str])]) {
@@ -36,13 +49,16 @@ fn assert_verdicts(item: impl Fn(&str) -> String, good: &[&str], bad: &[(&str, &
     }
 }
 
-const NO_SYMBOLS: [&str; 17] = [
-    "", " ", "a b", "1", "1a", "|", "|a", "a|", "|a|b|", "|a\\b|", "a\\", "(", "a)", "a;b", "\"\"",
-    ":k", "#x1",
+/// What cannot stand between bars.
+const UNSENDABLE: [&str; 12] = [
+    "", "|", "|||", "|a", "a|", "|a|b|", "|a\\b|", "a\\", "\\", "|\\|", "a|b", "||a||",
 ];
-const NUMBERS_ALIKE: [&str; 8] = [
-    "-5", "|-5|", "|5|", "|007|", "|1.50|", "-1.5", "|#xyz|", "|#b|",
+/// What is a symbol only between bars.
+const UNQUOTED: [&str; 13] = [
+    " ", "a b", "1", "1a", "(", "a)", "a;b", "\"\"", ":k", "#x1", "5", "1.5", "red 40",
 ];
+const NEGATIVE: [&str; 6] = ["-5", "|-5|", "-1.5", "|-1.50|", "-007", "|-0|"];
+const NUMBERS_ALIKE: [&str; 5] = ["|5|", "|007|", "|1.50|", "|#xyz|", "|#b|"];
 const RESERVED: [&str; 8] = [
     "let",
     "|let|",
@@ -71,22 +87,43 @@ const SYMBOLS: [&str; 13] = [
 
 #[test]
 fn declared_names() {
-    let bad: [(&str, &[&str]); 3] = [
-        ("a symbol of SMT-LIB", &NO_SYMBOLS),
-        ("a name that does not look like a number", &NUMBERS_ALIKE),
-        ("a name that SMT-LIB does not reserve", &RESERVED),
-    ];
+    let no_number = "a name that does not look like a negative number";
+    let bad: [(&str, &[&str]); 1] = [(no_number, &NEGATIVE)];
     // A minus alone is an operator.
-    let symbols: Vec<&str> = SYMBOLS.into_iter().filter(|name| *name != "-").collect();
+    let good = [&SYMBOLS[..], &UNQUOTED, &NUMBERS_ALIKE, &RESERVED].concat();
+    let symbols: Vec<&str> = good.iter().copied().filter(|name| *name != "-").collect();
     let typ = |name: &str| format!("(type x :name \"{name}\")");
-    assert_verdicts(typ, &SYMBOLS, &bad);
+    assert_verdicts(typ, &good, &bad);
     let constant = |name: &str| format!("(constant x Int :name \"{name}\")");
     assert_verdicts(constant, &symbols, &bad);
     let function = |name: &str| format!("(function x (Int) Int :name \"{name}\")");
     assert_verdicts(function, &symbols, &bad);
     // A plan's own name needs no `:name` to look like a number.
     let own = |name: &str| format!("(constant {name} Int)");
-    assert_verdicts(own, &["|a b|"], &[(bad[1].0, &["|-5|", "|0|", "|1.5|"])]);
+    let good = ["|a b|", "|0|", "|1.5|", "-5a"];
+    assert_verdicts(own, &good, &[(no_number, &["|-5|", "|-1.5|"])]);
+}
+
+/// These are refused with raw names too, since no call takes their book.
+#[test]
+fn names_that_no_book_takes() {
+    for name in UNSENDABLE {
+        for item in [
+            "(type x :name \"",
+            "(constant x Int :name \"",
+            "(function x () Int :name \"",
+        ] {
+            let error = refused(&format!("{item}{name}\")"));
+            let expected = "a name that is not empty and has neither bar nor backslash inside";
+            assert_eq!(error.expected, expected, "{name}");
+            let found = match name {
+                "" => "an empty name".into(),
+                _ => format!("`{name}`"),
+            };
+            assert_eq!(error.found, found);
+            assert_eq!(error.at.column as usize, item.len());
+        }
+    }
 }
 
 #[test]
@@ -95,9 +132,10 @@ fn built_in_operators() {
         "0", "10", "1.50", "0.0", "#xfF09", "#b0110", "-5", "|-5|", "|#xyz|", "true", "ite", "|=|",
     ];
     let good: Vec<&str> = SYMBOLS.iter().chain(&numbers).copied().collect();
-    let no_tokens: Vec<&str> = NO_SYMBOLS
+    let no_tokens: Vec<&str> = UNSENDABLE
         .into_iter()
-        .filter(|name| !["1", "#x1"].contains(name))
+        .chain(UNQUOTED)
+        .filter(|name| !["1", "#x1", "5", "1.5"].contains(name))
         .chain([
             "#x", "#b", "#b2", "#xg", "1.", ".5.(", "1.2.3", "00", "007", "01.5", "#", "-#x1",
         ])
@@ -144,18 +182,24 @@ fn literals() {
     assert_eq!(error(&of("thread")), None);
     let message = "line 2, column 9: expected a literal without bars and backslashes inside, \
                    found `|wool:|thread kind||`, of the type at line 1, column 15";
-    let error = error(&of("|thread kind|")).expect("a bar in the type's name");
-    assert_eq!(error.to_string(), message);
-    assert_eq!(error_of_own_bar(), "`|a|b:S|`");
-}
-
-fn error_of_own_bar() -> String {
-    let text = "(type S)(term t (literal \"a|b\" S))";
-    error(text).expect("a bar in the text").found
+    assert_eq!(error(&of("thread kind")), None);
+    assert_eq!(refused(&of("|thread kind|")).to_string(), message);
+    let own_bar = refused("(type S)(term t (literal \"a|b\" S))");
+    assert_eq!(own_bar.found, "`|a|b:S|`");
+    // The plan's own name goes into the book without bars.
+    assert_eq!(
+        error("(type |red 40|)(term t (literal \"wool\" |red 40|))"),
+        None
+    );
+    let negative = refused("(type |-5|)(term t (literal \"wool\" |-5|))");
+    assert_eq!(
+        negative.found,
+        "`|wool:|-5||`, of the type at line 1, column 7"
+    );
 }
 
 /// Plans with a clash, and what is said of it.
-const CLASHES: [(&str, &str); 13] = [
+const CLASHES: [(&str, &str); 15] = [
     (
         "(constant x Int)\n(constant y Int :name \"|x|\")",
         "line 2, column 23: expected a name of its own, found `|x|`, \
@@ -164,7 +208,13 @@ const CLASHES: [(&str, &str); 13] = [
     (
         "(function x () Int :name \"a b\")\n(constant |a b| Int :name \"y\")\n\
              (function z () Int :name \"y\")",
-        "line 1, column 26: expected a symbol of SMT-LIB, found `a b`",
+        "line 3, column 26: expected a name of its own, found `y`, \
+             the name of the constant at line 2, column 27",
+    ),
+    (
+        "(constant x Int :name \"a b\")\n(constant |a b| Int)",
+        "line 2, column 11: expected a name of its own, found `a b`, \
+             the name of the constant at line 1, column 23",
     ),
     (
         "(function z () Int :name \"y\")\n(constant y Int)",
@@ -206,7 +256,13 @@ const CLASHES: [(&str, &str); 13] = [
     (
         "(type S)(type |b:S|)(type T :name \"b:S\")\n(term t (literal \"a:b\" S))\n\
              (term u (literal \"a\" T))",
-        "line 1, column 35: expected a symbol of SMT-LIB, found `b:S`",
+        "line 1, column 35: expected a name of its own, found `b:S`, \
+             the name of the type at line 1, column 15",
+    ),
+    (
+        "(type S)(type |b:S|)\n(term t (literal \"a:b\" S))\n(term u (literal \"a\" |b:S|))",
+        "line 3, column 9: expected a name of its own, found `|a:b:S|`, \
+             the name of the term at line 2, column 9",
     ),
     (
         "(term t (literal \"red\" Int))(term u (builtin \"|red:int|\"))",
@@ -231,18 +287,13 @@ fn clashes() {
 #[test]
 fn every_word_and_operator_clashes() {
     const WORDS: &str = "true false ite = => and or not xor distinct < <= > >= + - * div mod abs";
-    const RESERVED_TOO: &str = "let forall exists";
-    for word in WORDS.split(' ').chain(RESERVED_TOO.split(' ')) {
+    for word in WORDS.split(' ') {
         for name in [word.to_string(), format!("|{word}|")] {
             let constant = error(&format!("(constant x Int :name \"{name}\")"));
             let function = error(&format!("(function x () Int :name \"{name}\")"));
             assert!(constant.is_some() && function.is_some(), "{name}");
             let typ = error(&format!("(type x :name \"{name}\")"));
-            assert_eq!(
-                typ.is_some(),
-                RESERVED_TOO.split(' ').any(|reserved| reserved == word),
-                "{name}"
-            );
+            assert_eq!(typ, None, "{name}");
         }
     }
 }
@@ -281,14 +332,14 @@ fn complaints_of_a_book() {
     m.user_type("a b");
     m.user_type("|-5|");
     m.user_type("as");
-    let barred = m.user_type("|a:b|");
+    m.user_type("|a:b|");
     let [split, other_split] = ["c:d", "d"].map(|name| m.user_type(name));
     m.constant("x", INT);
     m.function("|x|", &[], BOOL);
     m.function("x", &[], BOOL);
     m.function("or", &[], BOOL);
     m.literal("red", good);
-    m.literal("red", barred);
+    m.boolean(true);
     m.literal("b", split);
     m.literal("b:c", other_split);
     m.literal("b", split);
@@ -298,19 +349,47 @@ fn complaints_of_a_book() {
     let expected = [
         "type 3: expected a name of its own, found `|T|`, the name of type 2",
         "type 4: expected a name of its own, found `T`, the name of type 2",
-        "type 5: expected a symbol of SMT-LIB, found `a b`",
-        "type 6: expected a name that does not look like a number, found `|-5|`",
-        "type 7: expected a name that SMT-LIB does not reserve, found `as`",
-        "type 9: expected a symbol of SMT-LIB, found `c:d`",
+        "type 6: expected a name that does not look like a negative number, found `|-5|`",
         "function 0: expected a name of its own, found `|x|`, the name of constant 0",
         "function 1: expected a name of its own, found `x`, the name of constant 0",
         "function 2: expected a name of its own, found `or`, an operator",
-        "term 1: expected a literal without bars and backslashes inside, \
-         found `|red:|a:b||`, of type 8",
         "term 3: expected a name of its own, found `|b:c:d|`, the name of term 2",
         "term 4: expected a name of its own, found `|b:c:d|`, the name of term 3",
         "term 5: expected a name of its own, found `x`, the name of constant 0",
         "term 6: expected a symbol or a number of SMT-LIB, found an empty name",
     ];
     assert_eq!(complaints(&m), expected);
+}
+
+/// Every name that a book is refused 28 for, record by record.
+#[test]
+fn refused_names_of_a_book() {
+    let mut m = Maker::default();
+    let barred = m.user_type("|a b|");
+    m.user_type("a|b");
+    m.constant("", INT);
+    m.function("\\", &[], BOOL);
+    m.constant("red 40", barred);
+    m.literal("red", barred);
+    m.literal("dark|red", INT);
+    m.literal("%tag", barred);
+    m.literal("", INT);
+    m.built_in("|", &[]);
+    assert_eq!(check_book(&m.book()), Err(BAD_NAME));
+    let told: Vec<String> = refused_names(&m.book())
+        .iter()
+        .map(Complaint::to_string)
+        .collect();
+    let name = "expected a name that is not empty and has neither bar nor backslash inside";
+    let literal = "expected a literal without bars and backslashes inside";
+    let expected = [
+        format!("type 3: {name}, found `a|b`"),
+        format!("constant 0: {name}, found an empty name"),
+        format!("function 0: {name}, found `\\`"),
+        format!("term 0: {literal}, found `|red:|a b||`, of type 2"),
+        format!("term 1: {literal}, found `|dark|red:int|`"),
+    ];
+    assert_eq!(told, expected);
+    assert_eq!(refused_names(b"no book"), []);
+    assert_eq!(refused_names(&Maker::default().book()), []);
 }
