@@ -5,17 +5,17 @@ use crate::book::{kind, Section, BOOL, FIRST_USER_TYPE};
 use crate::book_test::{FIRST_LETTER, LAST_LETTER};
 use crate::maker::Maker;
 use crate::name_faults::{may_be_declared, may_be_in_literal, text, type_text, TAG};
-use crate::random::{Random, AT_TIMES, HARDLY_EVER, OFTEN};
+use crate::random::{Random, HARDLY_EVER, OFTEN};
 use crate::random_books::Writer;
 
 /// Letters that many names are made of, so that texts meet by chance, and few
 /// enough of them are bars and backslashes.
 const COMMON_LETTERS: &[u8] = b"ab:ab: |\\";
 /// Letters of a book, if it has so many: names cut from them make literals of
-/// equal text by different splits, `%tag`, names that get bars and names that
-/// have them.
-const FIRST_LETTERS: &[u8] = b"a:b:c%tag|a b||let";
-const FIRST_NAMES: [[u32; 2]; 9] = [
+/// equal text by different splits, `%tag`, names that get bars, names that have
+/// them, and names that have too many.
+const FIRST_LETTERS: &[u8] = b"a:b:c%tag|a b||let|\\|";
+const FIRST_NAMES: [[u32; 2]; 11] = [
     [0, 3],
     [4, 1],
     [0, 1],
@@ -25,6 +25,8 @@ const FIRST_NAMES: [[u32; 2]; 9] = [
     [10, 3],
     [13, 2],
     [15, 3],
+    [9, 6],
+    [18, 3],
 ];
 /// The usual length of a name.
 const NAME_LENGTH: usize = 6;
@@ -51,7 +53,7 @@ impl Writer<'_> {
             self.maker.letters[..FIRST_LETTERS.len()].copy_from_slice(FIRST_LETTERS);
         }
         for _ in 0..self.counts.of(Section::Names) {
-            let name = if has_first && self.random.one_in(AT_TIMES) {
+            let name = if has_first && self.random.one_in(OFTEN) {
                 self.random.pick(&FIRST_NAMES)
             } else {
                 let start = self.random.up_to(letters);
@@ -107,7 +109,7 @@ impl Writer<'_> {
 
 /// Gives some records bad names of the book, so far as it has records and bad
 /// names.
-pub fn spoil_names(random: &mut Random, m: &mut Maker) {
+pub(crate) fn spoil_names(random: &mut Random, m: &mut Maker) {
     let bad = names_that(m, |name| !may_be_declared(name));
     let in_no_literal = names_that(m, |name| !may_be_in_literal(name));
     for _ in 0..=random.below(BAD_NAMES) {
