@@ -1,22 +1,40 @@
-//! Random books with sane names and good sorts: simple symbols of their own,
-//! the operators of SMT-LIB's theories with as many arguments as they take,
+//! Random books with sane names and good sorts: symbols of their own, with bars
+//! and without, the operators of SMT-LIB's theories with as many arguments as they take,
 //! and negative numbers wherever a number can stand.
 
 use crate::session_books::DEEP;
 use leskofar_reference::book::{kind, Section, BOOL, INT};
 use leskofar_reference::book_test::MOST_DEPTH;
 use leskofar_reference::maker::Maker;
+use leskofar_reference::name_faults::may_be_in_literal;
 use leskofar_reference::program::SType;
 use leskofar_reference::random::{Random, AT_TIMES, HARDLY_EVER, OFTEN, RARELY};
 use leskofar_reference::smtlib::signatures::{operators, signature, Signature};
 use std::collections::BTreeMap;
 
-/// Simple symbols of every sign, some nearly words or numbers.
-const TYPES: [&str; 3] = ["T", "Shade-2", "int?"];
-const CONSTANTS: [&str; 12] = [
-    "x", "box_1", "-x", "--5", "+5", "a.b", "let!", "Push", "%tag", "<>", "~&^", "y@$/*",
+/// Simple symbols of every sign, some nearly words or numbers; names that need
+/// bars, reserved words among them; and names that have them.
+const TYPES: [&str; 5] = ["T", "Shade-2", "int?", "red 40", "let"];
+const CONSTANTS: [&str; 18] = [
+    "x", "box_1", "-x", "--5", "+5", "a.b", "let!", "Push", "%tag", "<>", "~&^", "y@$/*", "40",
+    "dark red", "|as is|", "forall", "-5", "||",
 ];
-const FUNCTIONS: [&str; 5] = ["f", "g-1", "=f", "-f", "true?"];
+const FUNCTIONS: [&str; 8] = [
+    "f",
+    "g-1",
+    "=f",
+    "-f",
+    "true?",
+    "dye of",
+    "|f g|",
+    "declare-fun",
+];
+/// A type that no literal is of.
+const BARRED_TYPE: &str = "|as is|";
+/// Names of which any two records may have the same, and solvers' own.
+const CLASHING: [&str; 12] = [
+    "x", "|x|", "and", "true", "Bool", "@a", ".b", "red 40", "|red 40|", "let", "|let|", "-5",
+];
 /// What stands in a literal's name between bars.
 const LITERALS: [&str; 6] = ["red", "dark blue", "", "-5", "(- 5)", "a:b;"];
 const TAG: &str = "%tag";
@@ -39,6 +57,7 @@ pub fn sane_book(random: &mut Random) -> Maker {
         maker: Maker::default(),
         names: BTreeMap::new(),
         types: vec![BOOL, INT],
+        barred: None,
         constants: Vec::new(),
         functions: Vec::new(),
     };
@@ -58,12 +77,38 @@ struct Function {
     typ: u32,
 }
 
+/// A book in which most names mean several things.
+pub fn clashing_book(random: &mut Random) -> Maker {
+    let mut m = sane_book(random);
+    // One that a solver knows, whatever the others are.
+    let known = m.name("or");
+    let names = CLASHING.map(|name| m.name(name));
+    let declared = names.into_iter().chain([known]).collect::<Vec<u32>>();
+    for constant in &mut m.constants {
+        constant[0] = random.pick(&declared);
+    }
+    for function in &mut m.functions {
+        function[0] = random.pick(&declared);
+    }
+    m.constants[0][0] = known;
+    let plain = CLASHING.iter().zip(names);
+    let plain: Vec<u32> = plain
+        .filter(|(text, _)| may_be_in_literal(text))
+        .map(|(_, name)| name)
+        .collect();
+    for typ in &mut m.types {
+        typ[0] = random.pick(&plain);
+    }
+    m
+}
+
 struct Writer<'r> {
     random: &'r mut Random,
     maker: Maker,
     /// Of operators and literals.
     names: BTreeMap<&'static str, u32>,
     types: Vec<u32>,
+    barred: Option<u32>,
     /// Each with its type.
     constants: Vec<[u32; 2]>,
     functions: Vec<Function>,
@@ -75,6 +120,9 @@ impl Writer<'_> {
             let typ = self.maker.user_type(name);
             self.types.push(typ);
         }
+        let barred = self.maker.user_type(BARRED_TYPE);
+        self.barred = Some(barred);
+        self.types.push(barred);
         // Of each type one at least.
         for (number, name) in CONSTANTS.into_iter().enumerate() {
             let typ = match self.types.get(number) {
@@ -159,7 +207,7 @@ impl Writer<'_> {
             let b = self.random.one_in(OFTEN);
             return self.maker.boolean(b);
         }
-        if self.random.one_in(AT_TIMES) {
+        if self.barred != Some(sort) && self.random.one_in(AT_TIMES) {
             let text = self.random.pick(&LITERALS);
             return self.literal(text, sort);
         }
