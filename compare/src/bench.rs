@@ -39,7 +39,10 @@ const MANY_NAMES: [(&str, NameSort); 4] = [
     ("long simple names", NameSort::Simple),
     ("long names that get bars", NameSort::GetsBars),
     ("long names between bars", NameSort::Quoted),
-    ("long names, the last of them refused 28", NameSort::LastIsBad),
+    (
+        "long names, the last of them refused 28",
+        NameSort::LastIsBad,
+    ),
 ];
 /// Entries that all ranges of a book share.
 const ENTRIES: [usize; 4] = [256, 512, 1024, 2048];

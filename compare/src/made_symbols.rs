@@ -107,7 +107,12 @@ pub fn longest_names() -> Vec<String> {
     let most = Section::Letters.most();
     let simple = "a".repeat(most);
     let quoted = format!("|{}|", " ".repeat(most - 2));
-    let mut names = vec![simple.clone(), "0".repeat(most), " ".repeat(most), quoted.clone()];
+    let mut names = vec![
+        simple.clone(),
+        "0".repeat(most),
+        " ".repeat(most),
+        quoted.clone(),
+    ];
     for (text, letters) in [(&simple, " |\\"), (&quoted, "|\\")] {
         for letter in letters.chars() {
             for place in [1, most / 2, most - 2, most - 1] {
@@ -124,7 +129,9 @@ pub fn longest_names() -> Vec<String> {
 /// book is good.
 pub fn literals() -> Vec<(Maker, bool)> {
     let mut books = Vec::new();
-    let texts = ["", " ", "a", "dark red", "let", "40", "a:b", "%tag", "%tag|"];
+    let texts = [
+        "", " ", "a", "dark red", "let", "40", "a:b", "%tag", "%tag|",
+    ];
     for text in texts.into_iter().chain(BARRED) {
         for typ in ["bool", "int", "T", "red 40", "let", "||", "|T|", "|red 40|"] {
             let mut m = Maker::default();

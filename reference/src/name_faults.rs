@@ -63,6 +63,12 @@ pub fn may_be_declared(name: &str) -> bool {
     faults_of(name).is_empty()
 }
 
+/// The first name of a book that may be declared.
+pub fn declarable_name(m: &Maker) -> Option<u32> {
+    let mut names = 0..m.names.len() as u32;
+    names.find(|name| may_be_declared(&text(m, *name)))
+}
+
 /// Whether a name may be a part of a literal's.
 pub fn may_be_in_literal(name: &str) -> bool {
     name == TAG || !name.contains(['|', '\\'])
