@@ -33,6 +33,7 @@ mod book;
 mod book_call;
 mod buffers;
 mod calls;
+mod clashing_books;
 mod damaged_images;
 mod forests;
 mod image_places;

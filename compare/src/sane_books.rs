@@ -6,7 +6,6 @@ use crate::session_books::DEEP;
 use leskofar_reference::book::{kind, Section, BOOL, INT};
 use leskofar_reference::book_test::MOST_DEPTH;
 use leskofar_reference::maker::Maker;
-use leskofar_reference::name_faults::may_be_in_literal;
 use leskofar_reference::program::SType;
 use leskofar_reference::random::{Random, AT_TIMES, HARDLY_EVER, OFTEN, RARELY};
 use leskofar_reference::smtlib::signatures::{operators, signature, Signature};
@@ -31,10 +30,6 @@ const FUNCTIONS: [&str; 8] = [
 ];
 /// A type that no literal is of.
 const BARRED_TYPE: &str = "|as is|";
-/// Names of which any two records may have the same, and solvers' own.
-const CLASHING: [&str; 12] = [
-    "x", "|x|", "and", "true", "Bool", "@a", ".b", "red 40", "|red 40|", "let", "|let|", "-5",
-];
 /// What stands in a literal's name between bars.
 const LITERALS: [&str; 6] = ["red", "dark blue", "", "-5", "(- 5)", "a:b;"];
 const TAG: &str = "%tag";
@@ -75,31 +70,6 @@ struct Function {
     number: u32,
     inputs: Vec<u32>,
     typ: u32,
-}
-
-/// A book in which most names mean several things.
-pub fn clashing_book(random: &mut Random) -> Maker {
-    let mut m = sane_book(random);
-    // One that a solver knows, whatever the others are.
-    let known = m.name("or");
-    let names = CLASHING.map(|name| m.name(name));
-    let declared = names.into_iter().chain([known]).collect::<Vec<u32>>();
-    for constant in &mut m.constants {
-        constant[0] = random.pick(&declared);
-    }
-    for function in &mut m.functions {
-        function[0] = random.pick(&declared);
-    }
-    m.constants[0][0] = known;
-    let plain = CLASHING.iter().zip(names);
-    let plain: Vec<u32> = plain
-        .filter(|(text, _)| may_be_in_literal(text))
-        .map(|(_, name)| name)
-        .collect();
-    for typ in &mut m.types {
-        typ[0] = random.pick(&plain);
-    }
-    m
 }
 
 struct Writer<'r> {

@@ -2,9 +2,10 @@
 //! of SMT-LIB 2.6 reads.
 
 use crate::calls::{Call, Measure, OK};
+use crate::clashing_books::clashing_book;
 use crate::lists::on_book;
 use crate::sane::is_sane;
-use crate::sane_books::{clashing_book, sane_book};
+use crate::sane_books::sane_book;
 use crate::seen::{Seen, RESULTS};
 use crate::sessions::random_list;
 use crate::shapes::SHAPES;

@@ -1,10 +1,10 @@
 //! The rules of names: which can go to a solver, which are one token, and which
 //! clash.
 
+use crate::refused_names::UNSENDABLE;
 use leskofar_reference::book::{BOOL, INT};
 use leskofar_reference::maker::Maker;
-use leskofar_reference::plan::{check_book, read, refused_names, Complaint, Options, PlanError};
-use leskofar_reference::refusal::BAD_NAME;
+use leskofar_reference::plan::{check_book, read, Complaint, Options, PlanError};
 
 const RAW_NAMES: Options = Options {
     raw_names: true,
@@ -18,17 +18,6 @@ fn error(text: &str) -> Option<PlanError> {
     let plan = read(text.as_bytes(), RAW_NAMES).expect(text);
     assert_eq!(plan.warnings, [error.clone()], "{text}");
     Some(error)
-}
-
-/// The error of a plan with a name that no book takes, raw or not.
-fn refused(text: &str) -> PlanError {
-    let error = read(text.as_bytes(), Options::default()).expect_err(text);
-    assert_eq!(
-        read(text.as_bytes(), Options::RAW).err().as_ref(),
-        Some(&error),
-        "{text}"
-    );
-    error
 }
 
 fn assert_verdicts(item: impl Fn(&str) -> String, good: &[&str], bad: &[(&str, &[&str])]) {
@@ -49,10 +38,6 @@ fn assert_verdicts(item: impl Fn(&str) -> String, good: &[&str], bad: &[(&str, &
     }
 }
 
-/// What cannot stand between bars.
-const UNSENDABLE: [&str; 12] = [
-    "", "|", "|||", "|a", "a|", "|a|b|", "|a\\b|", "a\\", "\\", "|\\|", "a|b", "||a||",
-];
 /// What is a symbol only between bars.
 const UNQUOTED: [&str; 13] = [
     " ", "a b", "1", "1a", "(", "a)", "a;b", "\"\"", ":k", "#x1", "5", "1.5", "red 40",
@@ -102,28 +87,6 @@ fn declared_names() {
     let own = |name: &str| format!("(constant {name} Int)");
     let good = ["|a b|", "|0|", "|1.5|", "-5a"];
     assert_verdicts(own, &good, &[(no_number, &["|-5|", "|-1.5|"])]);
-}
-
-/// These are refused with raw names too, since no call takes their book.
-#[test]
-fn names_that_no_book_takes() {
-    for name in UNSENDABLE {
-        for item in [
-            "(type x :name \"",
-            "(constant x Int :name \"",
-            "(function x () Int :name \"",
-        ] {
-            let error = refused(&format!("{item}{name}\")"));
-            let expected = "a name that is not empty and has neither bar nor backslash inside";
-            assert_eq!(error.expected, expected, "{name}");
-            let found = match name {
-                "" => "an empty name".into(),
-                _ => format!("`{name}`"),
-            };
-            assert_eq!(error.found, found);
-            assert_eq!(error.at.column as usize, item.len());
-        }
-    }
 }
 
 #[test]
@@ -178,24 +141,12 @@ fn literals() {
         // `%tag` is never sent as a name, whatever its type.
         assert_eq!(names.is_ok(), is_good || s == "%tag", "{s}");
     }
+    // A type's name may have spaces, and the plan's own goes without bars.
     let of = |typ: &str| format!("(type S :name \"{typ}\")\n(term t (literal \"wool\" S))");
     assert_eq!(error(&of("thread")), None);
-    let message = "line 2, column 9: expected a literal without bars and backslashes inside, \
-                   found `|wool:|thread kind||`, of the type at line 1, column 15";
     assert_eq!(error(&of("thread kind")), None);
-    assert_eq!(refused(&of("|thread kind|")).to_string(), message);
-    let own_bar = refused("(type S)(term t (literal \"a|b\" S))");
-    assert_eq!(own_bar.found, "`|a|b:S|`");
-    // The plan's own name goes into the book without bars.
-    assert_eq!(
-        error("(type |red 40|)(term t (literal \"wool\" |red 40|))"),
-        None
-    );
-    let negative = refused("(type |-5|)(term t (literal \"wool\" |-5|))");
-    assert_eq!(
-        negative.found,
-        "`|wool:|-5||`, of the type at line 1, column 7"
-    );
+    let own = "(type |red 40|)(term t (literal \"wool\" |red 40|))";
+    assert_eq!(error(own), None);
 }
 
 /// Plans with a clash, and what is said of it.
@@ -359,37 +310,4 @@ fn complaints_of_a_book() {
         "term 6: expected a symbol or a number of SMT-LIB, found an empty name",
     ];
     assert_eq!(complaints(&m), expected);
-}
-
-/// Every name that a book is refused 28 for, record by record.
-#[test]
-fn refused_names_of_a_book() {
-    let mut m = Maker::default();
-    let barred = m.user_type("|a b|");
-    m.user_type("a|b");
-    m.constant("", INT);
-    m.function("\\", &[], BOOL);
-    m.constant("red 40", barred);
-    m.literal("red", barred);
-    m.literal("dark|red", INT);
-    m.literal("%tag", barred);
-    m.literal("", INT);
-    m.built_in("|", &[]);
-    assert_eq!(check_book(&m.book()), Err(BAD_NAME));
-    let told: Vec<String> = refused_names(&m.book())
-        .iter()
-        .map(Complaint::to_string)
-        .collect();
-    let name = "expected a name that is not empty and has neither bar nor backslash inside";
-    let literal = "expected a literal without bars and backslashes inside";
-    let expected = [
-        format!("type 3: {name}, found `a|b`"),
-        format!("constant 0: {name}, found an empty name"),
-        format!("function 0: {name}, found `\\`"),
-        format!("term 0: {literal}, found `|red:|a b||`, of type 2"),
-        format!("term 1: {literal}, found `|dark|red:int|`"),
-    ];
-    assert_eq!(told, expected);
-    assert_eq!(refused_names(b"no book"), []);
-    assert_eq!(refused_names(&Maker::default().book()), []);
 }
