@@ -2,73 +2,50 @@
 
 use crate::sane_books::sane_book;
 use crate::session_books::{chain_book, session_book};
-use leskofar_reference::book::{kind, Section, NO_TERM, TERM_FIELDS};
+use leskofar_reference::book::{kind, Section, NO_TERM};
 use leskofar_reference::book_test::MOST_DEPTH;
 use leskofar_reference::lower::TAG;
 use leskofar_reference::maker::Maker;
+use leskofar_reference::name_faults::{may_be_declared, may_be_in_literal};
 use leskofar_reference::random::{Random, AT_TIMES, HARDLY_EVER, OFTEN, RARELY};
 use leskofar_reference::random_books::{random_book, Counts};
 
-/// Where a line may have a name and be a command all the same: where names stand
-/// as they are, and between bars, as in a literal.
-#[derive(Clone, Copy)]
-pub struct Fits {
-    pub outside: bool,
-    pub between_bars: bool,
-}
-
-const EVERYWHERE: Fits = Fits {
-    outside: true,
-    between_bars: true,
-};
-const BETWEEN_BARS: Fits = Fits {
-    outside: false,
-    between_bars: true,
-};
-const OUTSIDE: Fits = Fits {
-    outside: true,
-    between_bars: false,
-};
-const NOWHERE: Fits = Fits {
-    outside: false,
-    between_bars: false,
-};
-
-/// Names that make odd lines, or lines that only look odd.
-pub const ODD_NAMES: [(&str, Fits); 26] = [
-    ("", EVERYWHERE),
-    (" ", EVERYWHERE),
-    ("a b", EVERYWHERE),
-    ("|", NOWHERE),
-    ("||", EVERYWHERE),
-    ("|||", NOWHERE),
-    ("||||", EVERYWHERE),
-    ("|a b|", EVERYWHERE),
-    ("|(|", OUTSIDE),
-    ("|)|", OUTSIDE),
-    ("|;|", OUTSIDE),
-    ("|\"|", OUTSIDE),
-    ("a|b|c", EVERYWHERE),
-    (";", BETWEEN_BARS),
-    ("a;b", BETWEEN_BARS),
-    ("|a;", NOWHERE),
-    ("\"", BETWEEN_BARS),
-    ("\"\"", BETWEEN_BARS),
-    ("(", BETWEEN_BARS),
-    (")", BETWEEN_BARS),
-    ("()", EVERYWHERE),
-    (CLOSES_AND_OPENS, BETWEEN_BARS),
-    ("(a)", EVERYWHERE),
-    ("\\", EVERYWHERE),
-    ("%tag", EVERYWHERE),
-    ("~", EVERYWHERE),
+/// Names that make odd lines, or lines that only look odd, each with whether a
+/// line that has it as it is is a command all the same.
+pub const ODD_NAMES: [(&str, bool); 26] = [
+    ("", true),
+    (" ", true),
+    ("a b", true),
+    ("|", false),
+    ("||", true),
+    ("|||", false),
+    ("||||", true),
+    ("|a b|", true),
+    ("|(|", true),
+    ("|)|", true),
+    ("|;|", true),
+    ("|\"|", true),
+    ("a|b|c", true),
+    (";", false),
+    ("a;b", false),
+    ("|a;", false),
+    ("\"", false),
+    ("\"\"", false),
+    ("(", false),
+    (")", false),
+    ("()", true),
+    (CLOSES_AND_OPENS, false),
+    ("(a)", true),
+    ("\\", true),
+    ("%tag", true),
+    ("~", true),
 ];
 /// What a line may have outside of bars only where it has opened enough.
 pub const CLOSES_AND_OPENS: &str = ")(";
 /// The most names of a book that become odd.
 const ODD: usize = 3;
-/// What has names: types, constants, functions and terms.
-const NAMED: usize = 4;
+/// What has names: types, constants, functions, literals and operators.
+const NAMED: usize = 5;
 /// The sizes of random books.
 const SIZES: [usize; 4] = [1, 2, 4, 8];
 
@@ -121,29 +98,35 @@ fn declare_alike(random: &mut Random, m: &mut Maker) {
     }
 }
 
-/// Gives odd names to some types, constants, functions and literals.
+/// Gives odd names to some types, constants, functions, literals and operators,
+/// such as they may have.
 fn name_oddly(random: &mut Random, m: &mut Maker) {
     for _ in 0..=random.below(ODD) {
         if m.names.len() == Section::Names.most() {
             return;
         }
-        let (name, _) = random.pick(&ODD_NAMES);
-        let name = m.name(name);
+        let (text, _) = random.pick(&ODD_NAMES);
+        let name = m.name(text);
         let named = match random.below(NAMED) {
-            0 => named(random, &mut m.types),
-            1 => named(random, &mut m.constants),
-            2 => named(random, &mut m.functions),
-            _ => {
-                let is_named = |term: &&mut [u32; TERM_FIELDS]| {
-                    [kind::CUSTOM_LITERAL, kind::BUILT_IN].contains(&term[0])
-                };
-                m.terms.iter_mut().find(is_named).map(|term| &mut term[1])
-            }
+            // A literal may be of any type.
+            0 if may_be_declared(text) && may_be_in_literal(text) => named(random, &mut m.types),
+            1 if may_be_declared(text) => named(random, &mut m.constants),
+            2 if may_be_declared(text) => named(random, &mut m.functions),
+            3 if may_be_in_literal(text) => named_term(m, kind::CUSTOM_LITERAL),
+            4 => named_term(m, kind::BUILT_IN),
+            _ => None,
         };
         if let Some(field) = named {
             *field = name;
         }
     }
+}
+
+/// The name of the first term of a kind.
+fn named_term(m: &mut Maker, kind: u32) -> Option<&mut u32> {
+    let mut terms = m.terms.iter_mut();
+    let first = terms.find(|term| term[0] == kind);
+    first.map(|term| &mut term[1])
 }
 
 /// The name of a record, which is its first field, if there are records.

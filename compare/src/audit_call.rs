@@ -31,7 +31,7 @@ pub const VERDICTS: [Outcome; 3] = [
     Outcome::DiffersLater,
 ];
 /// How it ends otherwise.
-pub const REFUSALS: [Outcome; 12] = [
+pub const REFUSALS: [Outcome; 13] = [
     Outcome::Refused(1),
     Outcome::Refused(2),
     Outcome::Refused(3),
@@ -39,6 +39,7 @@ pub const REFUSALS: [Outcome; 12] = [
     Outcome::Refused(4),
     Outcome::Refused(5),
     Outcome::Refused(6),
+    Outcome::Refused(28),
     Outcome::Refused(7),
     Outcome::Refused(9),
     Outcome::Refused(25),

@@ -1,8 +1,8 @@
-//! Own texts with names that make odd lines: accepted exactly where each of
-//! their lines is a command.
+//! Own texts with names that make odd lines: a symbol or a literal makes a
+//! command wherever its book is one, an operator where its name does.
 
 use crate::audit::Audits;
-use crate::audit_books::{Fits, CLOSES_AND_OPENS, ODD_NAMES};
+use crate::audit_books::{CLOSES_AND_OPENS, ODD_NAMES};
 use crate::audit_call::{AuditCall, Outcome};
 use crate::audit_texts::own_text;
 use crate::tally::Met;
@@ -10,7 +10,8 @@ use leskofar_reference::audit::Verdict;
 use leskofar_reference::audit_samples::bytes;
 use leskofar_reference::book::INT;
 use leskofar_reference::maker::Maker;
-use leskofar_reference::refusal::{FOREIGN_LINE, TAG_IN_BOOK};
+use leskofar_reference::name_faults::{may_be_declared, may_be_in_literal, TAG};
+use leskofar_reference::refusal::{BAD_NAME, FOREIGN_LINE, TAG_IN_BOOK};
 
 /// What a name is the name of.
 #[derive(Clone, Copy, PartialEq)]
@@ -32,19 +33,16 @@ impl Role {
     ];
 
     /// What comes of the own text. A type's name stands in a literal's too; an
-    /// operator's alone stands in no declaration, only deep in a term.
-    fn answer(self, name: &str, fits: Fits) -> Result<Verdict, u32> {
-        let is_command = match self {
-            Role::Type => fits.outside && fits.between_bars,
-            Role::Constant | Role::Function => fits.outside,
-            Role::Literal if name == "%tag" => return Err(TAG_IN_BOOK),
-            Role::Literal => fits.between_bars,
-            Role::Operator => fits.outside || name == CLOSES_AND_OPENS,
-        };
-        if is_command {
-            Ok(Verdict::Agrees)
-        } else {
-            Err(FOREIGN_LINE)
+    /// operator's is sent as it is, in no declaration and only deep in a term.
+    fn answer(self, name: &str, is_command: bool) -> Result<Verdict, u32> {
+        let in_literal = may_be_in_literal(name);
+        match self {
+            Role::Type if !(may_be_declared(name) && in_literal) => Err(BAD_NAME),
+            Role::Constant | Role::Function if !may_be_declared(name) => Err(BAD_NAME),
+            Role::Literal if !in_literal => Err(BAD_NAME),
+            Role::Literal if name == TAG => Err(TAG_IN_BOOK),
+            Role::Operator if !(is_command || name == CLOSES_AND_OPENS) => Err(FOREIGN_LINE),
+            _ => Ok(Verdict::Agrees),
         }
     }
 
@@ -64,16 +62,21 @@ impl Role {
 }
 
 fn odd_names(met: &mut Met<Outcome>) -> Result<(), String> {
-    for (name, fits) in ODD_NAMES {
+    for (name, is_command) in ODD_NAMES {
         for role in Role::ALL {
             let (book, goal) = role.book(name);
-            let text = own_text(&book, 0, goal)?;
+            let answer = role.answer(name, is_command);
+            // There is no text where no call takes the book.
+            let text = match answer {
+                Err(BAD_NAME) => Vec::new(),
+                _ => own_text(&book, 0, goal)?,
+            };
             let call = AuditCall {
                 book: &book,
                 questions: &bytes(&[[0, goal]]),
                 script: &text,
             };
-            call.expect(role.answer(name, fits), met)?;
+            call.expect(answer, met)?;
             // With the name changed about.
             let other = String::from_utf8_lossy(&text).replace('|', "");
             let call = AuditCall {
@@ -94,6 +97,7 @@ pub fn run(audits: &mut Audits) {
             Outcome::DiffersAtOnce,
             Outcome::Refused(TAG_IN_BOOK),
             Outcome::Refused(FOREIGN_LINE),
+            Outcome::Refused(BAD_NAME),
         ])
     });
 }

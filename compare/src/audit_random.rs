@@ -231,7 +231,7 @@ fn damage_group(audits: &mut Audits) {
                 compare_damaged(&mut random, &own, met)?;
             }
         }
-        met.all_of(&[2, 3, 4, 5, 6, 7, 25, 26, 27].map(Outcome::Refused))?;
+        met.all_of(&[2, 3, 4, 5, 6, 28, 7, 25, 26, 27].map(Outcome::Refused))?;
         met.all_of(&VERDICTS)
     });
 }

@@ -4,13 +4,14 @@ use crate::bench_audit;
 use crate::bench_listing;
 use crate::bench_nodes;
 use crate::bench_sessions;
-use crate::bench_table::{head, row, LONG, SHORT, TERMS};
+use crate::bench_table::{head, row, spaced, LONG, SHORT, TERMS};
 use crate::bench_turns;
 use crate::bench_writer;
 use crate::library;
 use crate::made_books::full;
 use crate::made_costly::overlapping;
-use crate::made_terms::{flat, flat_numbers, nest_of};
+use crate::made_symbols::{many_names, NameSort};
+use crate::made_terms::{flat, flat_numbers, flat_of, nest_of};
 use crate::timing::{fastest, ratio};
 use leskofar_reference::book_test::SCRATCH_SIZE;
 use leskofar_reference::maker::Maker;
@@ -27,6 +28,21 @@ const NESTS: [&str; 2] = ["bodies before a pattern", "only arguments"];
 const NUMBERS: [(&str, i64); 2] = [
     ("flat, positive numbers", 123_456_789),
     ("flat, negative numbers", -123_456_789),
+];
+/// Names that get bars.
+const BARRED: [(&str, usize); 2] = [
+    ("flat, short names that get bars", SHORT),
+    ("flat, long names that get bars", LONG),
+];
+/// Books with as many names as there can be, all of one long text.
+const MANY_NAMES: [(&str, NameSort); 4] = [
+    ("long simple names", NameSort::Simple),
+    ("long names that get bars", NameSort::GetsBars),
+    ("long names between bars", NameSort::Quoted),
+    (
+        "long names, the last of them refused 28",
+        NameSort::LastIsBad,
+    ),
 ];
 /// Entries that all ranges of a book share.
 const ENTRIES: [usize; 4] = [256, 512, 1024, 2048];
@@ -50,6 +66,7 @@ fn bench_book_test() {
         let name = format!("ranges that share {entries} entries");
         (name, overlapping(entries).book())
     }));
+    books.extend(MANY_NAMES.map(|(name, sort)| (name.to_string(), many_names(sort).book())));
     for (name, book) in &books {
         let mut scratch = [0; SCRATCH_SIZE];
         let mut other = [0; SCRATCH_SIZE];
@@ -88,6 +105,11 @@ fn bench_printing() {
         for (name, letters) in [("flat, short names", SHORT), ("flat, long names", LONG)] {
             for terms in TERMS {
                 bench_print(name, &flat(terms - 1, letters), newlines);
+            }
+        }
+        for (name, letters) in BARRED {
+            for terms in TERMS {
+                bench_print(name, &flat_of(terms - 1, &spaced(letters)), newlines);
             }
         }
         for (name, x) in NUMBERS {

@@ -2,10 +2,10 @@
 //! this run: cost against path length and term count.
 
 use crate::bench_literals;
-use crate::bench_table::TERMS;
+use crate::bench_table::{spaced, LONG, TERMS};
 use crate::library::book_test;
 use crate::made_costly::explained_often;
-use crate::made_terms::{flat, nest_of};
+use crate::made_terms::{flat, flat_of, nest_of};
 use crate::session_library::{self as library, Answer, Buffers};
 use crate::timing::{fastest, percent, ratio};
 use leskofar_reference::book::{kind, Section, INT};
@@ -193,6 +193,15 @@ pub fn run() {
     }
     for terms in TERMS {
         bench_last_term("flat terms", terms, flat(terms - 1, LETTERS));
+    }
+    for (name, text) in [
+        ("flat terms, long names", "v".repeat(LONG)),
+        ("flat terms, names that get bars", spaced(LETTERS)),
+        ("flat terms, long names that get bars", spaced(LONG)),
+    ] {
+        for terms in TERMS {
+            bench_last_term(name, terms, flat_of(terms - 1, &text));
+        }
     }
     for terms in TERMS {
         bench_last_term("nested terms", terms, nest_of(NEST, terms));

@@ -12,6 +12,14 @@ pub const TERMS: [usize; 4] = [128, 256, 512, 1024];
 /// Letters of the names in flat terms.
 pub const SHORT: usize = 9;
 pub const LONG: usize = 1000;
+
+/// A name of so many letters that gets bars.
+pub fn spaced(letters: usize) -> String {
+    let mut name = "v".repeat(letters - 1);
+    name.push(' ');
+    name
+}
+
 /// More than any text here has.
 const ROOM: usize = 1 << 24;
 

@@ -10,7 +10,7 @@ use leskofar_reference::book::Section;
 use leskofar_reference::book_test::MOST_DEPTH;
 use leskofar_reference::damage::damaged;
 use leskofar_reference::random::{Random, OFTEN};
-use leskofar_reference::random_books::{random_book, Counts};
+use leskofar_reference::random_books::{any_random_book, Counts};
 use leskofar_reference::refusal::DEPTH;
 
 /// Random books, valid and damaged.
@@ -78,12 +78,12 @@ pub fn run(tally: &mut Tally) {
             }
         });
         first?;
-        met.all_of(&[0, 2, 4, 5])
+        met.all_of(&[0, 2, 4, 5, 28])
     });
     tally.group("book test, every refusal with every later one", || {
         let mut met = Met::default();
         compare_all(&faulty_books(), &mut met)?;
-        met.all_of(&[0, 2, 3, 4, 5, 6])
+        met.all_of(&[0, 2, 3, 4, 5, 6, 28])
     });
     let random_books = tally.share(RANDOM_BOOKS);
     tally.group("book test, random books", || {
@@ -92,7 +92,7 @@ pub fn run(tally: &mut Tally) {
         for _ in 0..random_books {
             let size = random.pick(&SIZES);
             let counts = Counts::random(&mut random, size);
-            let m = random_book(&mut random, counts);
+            let m = any_random_book(&mut random, counts);
             let book = if random.one_in(OFTEN) {
                 m.book()
             } else {
@@ -100,6 +100,6 @@ pub fn run(tally: &mut Tally) {
             };
             compare(&book, &random_scratch(&mut random), &mut met)?;
         }
-        met.all_of(&[0, 1, 2, 3, 4, 5, 6])
+        met.all_of(&[0, 1, 2, 3, 4, 5, 6, 28])
     });
 }

@@ -15,8 +15,8 @@ const WRITTEN_ENTRIES: usize = 512;
 /// A length that a count of 32 bits takes for 0.
 const WRAPPED: u64 = 1 << 32;
 /// Letters of names.
-const LETTERS: [usize; 4] = [0, 1, 255, Section::Letters.most()];
-const SHORT: [usize; 2] = [0, 3];
+const LETTERS: [usize; 4] = [1, 2, 255, Section::Letters.most()];
+const SHORT: [usize; 2] = [1, 3];
 
 /// The last term as the goal, at the root and at the last node.
 fn compare_last(m: &Maker, met: &mut Met) -> Result<(), String> {
@@ -41,9 +41,9 @@ fn compare_wrapped(met: &mut Met) -> Result<(), String> {
         let book = m.book();
         checked(&book).map(|program| last(&m, &book).length(&program))
     };
-    let unnamed = length(0)?;
-    let of_a_letter = length(1)? - unnamed;
-    let letters = (WRAPPED - unnamed).div_ceil(of_a_letter);
+    let of_one = length(1)?;
+    let of_a_letter = length(2)? - of_one;
+    let letters = 1 + (WRAPPED - of_one).div_ceil(of_a_letter);
     let rest = length(letters)? - WRAPPED;
     if rest > LONGEST {
         return Err(format!("{rest} bytes more than a count of 32 bits tells"));

@@ -3,7 +3,7 @@
 
 use crate::shapes::visit;
 use leskofar_reference::book_test::MOST_DEPTH;
-use leskofar_reference::program::{Program, RExpr, SType};
+use leskofar_reference::program::{Program, RExpr};
 
 const NO_PREMISE: &str = "no premise";
 const SEVERAL_PREMISES: &str = "several premises";
@@ -12,7 +12,7 @@ const GOAL_IS_A_PREMISE: &str = "goal that is a premise";
 const GOAL_IS_A_CHILD: &str = "goal inside another term";
 
 const NO_LITERAL_TEXT: &str = "literal without text";
-const NO_TYPE_NAME: &str = "literal of an unnamed type";
+const SPACED_TYPE: &str = "literal of a type with a space";
 const SEVERAL_ARGUMENTS: &str = "several arguments";
 const SEVERAL_VARIABLES: &str = "several variables";
 const VARIABLE_TWICE: &str = "the same variable twice";
@@ -27,7 +27,7 @@ pub const LISTING_SHAPES: [&str; 14] = [
     GOAL_IS_A_PREMISE,
     GOAL_IS_A_CHILD,
     NO_LITERAL_TEXT,
-    NO_TYPE_NAME,
+    SPACED_TYPE,
     SEVERAL_ARGUMENTS,
     SEVERAL_VARIABLES,
     VARIABLE_TWICE,
@@ -75,8 +75,8 @@ fn visit_parts(program: &Program, term: usize, see: &mut impl FnMut(&'static str
             if s.is_empty() {
                 see(NO_LITERAL_TEXT);
             }
-            if matches!(typ, SType::SUserType(decl) if program.types[*decl].name.is_empty()) {
-                see(NO_TYPE_NAME);
+            if typ.text(program).contains(&b' ') {
+                see(SPACED_TYPE);
             }
         }
         RExpr::FuncAppl { args, .. } if args.len() > 1 => see(SEVERAL_ARGUMENTS),

@@ -8,7 +8,6 @@
 use crate::calls::{Call, Given, Left, Measure};
 use crate::damaged_images::foreign;
 use crate::random_calls::random_call;
-use crate::sane::is_sane;
 use crate::scratch_bytes::{random_scratch, LEAST};
 use crate::seen::Seen;
 use crate::session_library::{self as library, PROVED, UNPROVED};
@@ -55,7 +54,7 @@ impl List {
             cyclic: cyclic(&program),
             image,
             reader: Reader::default(),
-            strict: Strict::new(&book, &program),
+            strict: Strict::new(&program),
             node: ROOT as u32,
             goal: None,
             owed: Owed::Nothing,
@@ -100,7 +99,7 @@ impl List {
         self.book = book.to_vec();
         self.maker = Maker::of(Book::new(book).ok_or("no table of contents")?);
         let program = decoded(book)?;
-        self.strict = self.strict.take().filter(|_| is_sane(book, &program));
+        self.strict = self.strict.take().and_then(|strict| strict.go_on(&program));
         self.read(&[]).map(|_| ())
     }
 

@@ -95,9 +95,9 @@ impl Writer<'_> {
     }
 
     /// A type of a name, at times a new one though there is one; if there can
-    /// be no more, any.
+    /// be no more, or the name has no letters, one that is built in.
     fn type_called(&mut self, name: &[u8]) -> u32 {
-        if self.random.one_in(RARELY) {
+        if name.is_empty() || self.random.one_in(RARELY) {
             return self.random.pick(&[BOOL, INT]);
         }
         let known = self.types.iter().find(|(known, _)| known == name);

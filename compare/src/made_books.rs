@@ -152,9 +152,9 @@ fn number(book: &[u8], place: usize) -> u32 {
     u32::from_le_bytes(bytes.try_into().expect("four bytes"))
 }
 
-/// A fault in the records for each refusal from 3 to 6, to be put together so
-/// that the order shows.
-fn faults() -> [fn(&mut Maker); 4] {
+/// A fault in the records for each refusal from 3 to 6 and for 28, to be put
+/// together so that the order shows.
+fn faults() -> [fn(&mut Maker); 5] {
     [
         |m| m.names.resize(Section::Names.most() + 1, [0, 0]),
         |m| m.letters.push(0x1F),
@@ -168,6 +168,9 @@ fn faults() -> [fn(&mut Maker); 4] {
                 let term = m.boolean(true);
                 node = m.context(node, term);
             }
+        },
+        |m| {
+            m.user_type("a|b");
         },
     ]
 }

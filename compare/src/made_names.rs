@@ -19,9 +19,12 @@ const REPEATED: usize = 8 * STEP;
 /// Another letter for every letter.
 const OTHER_BIT: u8 = 1;
 
-/// A text of so many letters, all different and no colon.
+/// A text of so many letters, all different and no colon. None of them is what
+/// no name has inside, nor becomes it when it is changed.
 pub fn letters(length: usize) -> String {
-    (b'A'..).take(length).map(char::from).collect()
+    let is_left_out = |letter: &u8| [*letter, letter ^ OTHER_BIT].contains(&b'\\');
+    let letters = (b'A'..).filter(|letter| !is_left_out(letter));
+    letters.take(length).map(char::from).collect()
 }
 
 /// The text with another letter at a place.
@@ -98,10 +101,11 @@ pub fn nearly_one_type(length: usize, offset: usize) -> Maker {
     m
 }
 
-/// Ranges of a text that begin with it, or that end with it, of every length.
-fn ranges(ends: bool) -> Vec<[usize; 2]> {
+/// Ranges of a text that begin with it, or that end with it, of every length from
+/// a shortest one on.
+fn ranges(ends: bool, shortest: usize) -> Vec<[usize; 2]> {
     let range = |length| [if ends { LONGEST - length } else { 0 }, length];
-    (0..=LONGEST).map(range).collect()
+    (shortest..=LONGEST).map(range).collect()
 }
 
 /// Names that are each other's begins, or ends; as names of types too.
@@ -110,7 +114,8 @@ pub fn begins_or_ends(ends: bool, of_types: bool, offset: usize) -> Maker {
     let first = m.letters.len();
     let whole = m.name(&letters(LONGEST));
     let mut literals = Vec::new();
-    for [start, length] in ranges(ends) {
+    // A type has a name.
+    for [start, length] in ranges(ends, usize::from(of_types)) {
         let name = m.names.len() as u32;
         m.names.push([(first + start) as u32, length as u32]);
         if of_types {

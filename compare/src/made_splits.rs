@@ -42,10 +42,13 @@ impl Splits {
         self.literals.push([self.maker.name(text), typ]);
     }
 
-    /// The literals of every split of a text.
+    /// The literals of every split of a text, but for a colon at its end: a type
+    /// has a name.
     fn add_all(&mut self, whole: &str) {
         for (colon, _) in whole.match_indices(COLON) {
-            self.add(whole, colon);
+            if colon + COLON.len() < whole.len() {
+                self.add(whole, colon);
+            }
         }
     }
 
@@ -170,7 +173,7 @@ pub fn types_of_one_name(types: usize) -> Maker {
 pub fn types_called_as_built_in() -> Maker {
     let mut m = Maker::default();
     let names = [
-        "int", "bool", "int", "bool", "Int", "Bool", "in", "boo", "int ", "", "x:int", "x:bool",
+        "int", "bool", "int", "bool", "Int", "Bool", "in", "boo", "int ", " ", "x:int", "x:bool",
     ];
     let mut types = vec![BOOL, INT];
     types.extend(names.map(|name| m.user_type(name)));

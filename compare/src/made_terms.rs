@@ -21,10 +21,10 @@ const INTEGERS: [i64; 14] = [
     1_000_000_000_000_000_000,
 ];
 /// The tag itself, and texts that are not quite it.
-const LITERALS: [&str; 8] = ["", "a", "a:b", "%tag", "%tags", "%ta", "%TAG", "|"];
+const LITERALS: [&str; 8] = ["", "a", "a:b", "%tag", "%tags", "%ta", "%TAG", "a b"];
 
-/// Terms of every kind with what is rare in them: empty names, numbers at
-/// their borders, texts like the tag's, quantifiers without variables and with
+/// Terms of every kind with what is rare in them: names with bars and names that
+/// get them, operators without a name, numbers at their borders, texts like the tag's, quantifiers without variables and with
 /// every sort of pattern.
 pub fn borders() -> Maker {
     let mut m = Maker::default();
@@ -34,16 +34,17 @@ pub fn borders() -> Maker {
     for x in INTEGERS {
         m.integer(x);
     }
-    let types = [BOOL, INT, m.user_type("T"), m.user_type("")];
+    let types = [BOOL, INT, m.user_type("T"), m.user_type("red 40")];
     for s in LITERALS {
         for typ in types {
             m.literal(s, typ);
         }
     }
     let named = types.map(|typ| m.constant("x", typ));
-    let unnamed = types.map(|typ| m.constant("", typ));
+    let barred = types.map(|typ| m.constant("||", typ));
     let tag = m.constant("%tag", INT);
-    for v in [named[0], unnamed[0], tag] {
+    let gets_bars = m.constant("let", types[3]);
+    for v in [named[0], barred[0], tag, gets_bars] {
         m.id(v);
     }
     for op in ["", "and", "%tag"] {
@@ -52,20 +53,20 @@ pub fn borders() -> Maker {
             m.built_in(op, &args);
         }
     }
-    for name in ["", "f"] {
+    for name in ["|f g|", "f g", "f"] {
         let f = m.function(name, &[], INT);
         for count in 0..3 {
-            let args = ids(&mut m, unnamed[0], count);
+            let args = ids(&mut m, barred[0], count);
             m.apply(f, &args);
         }
     }
     let terms = ids(&mut m, named[0], 3);
     m.if_then_else(terms[0], terms[1], terms[2]);
-    for v in [named[0], unnamed[0]] {
+    for v in [named[0], barred[0]] {
         let terms = ids(&mut m, v, 2);
         m.let_expr(v, terms[0], terms[1]);
     }
-    add_quantifiers(&mut m, &named, &unnamed);
+    add_quantifiers(&mut m, &named, &barred);
     m
 }
 
@@ -74,11 +75,11 @@ fn ids(m: &mut Maker, v: u32, count: usize) -> Vec<u32> {
     (0..count).map(|_| m.id(v)).collect()
 }
 
-fn add_quantifiers(m: &mut Maker, named: &[u32], unnamed: &[u32]) {
+fn add_quantifiers(m: &mut Maker, named: &[u32], barred: &[u32]) {
     let twice = [named[0], named[0]];
     let empty = m.pattern(&[]);
     for univ in [false, true] {
-        for vv in [&[], &named[..1], named, unnamed, &twice] {
+        for vv in [&[], &named[..1], named, barred, &twice] {
             for count in 0..3 {
                 let terms = ids(m, named[1], count);
                 let pattern = m.pattern(&terms);
@@ -221,8 +222,13 @@ pub fn nest_of(shape: &str, most: usize) -> Maker {
 
 /// A term with so many arguments of so many letters, the last of its book.
 pub fn flat(arguments: usize, letters: usize) -> Maker {
+    flat_of(arguments, &"v".repeat(letters))
+}
+
+/// The same with a name that is given.
+pub fn flat_of(arguments: usize, name: &str) -> Maker {
     let mut m = Maker::default();
-    let v = m.constant(&"v".repeat(letters), INT);
+    let v = m.constant(name, INT);
     let args = ids(&mut m, v, arguments);
     m.built_in("and", &args);
     m

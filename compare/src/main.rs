@@ -33,6 +33,7 @@ mod book;
 mod book_call;
 mod buffers;
 mod calls;
+mod clashing_books;
 mod damaged_images;
 mod forests;
 mod image_places;
@@ -53,6 +54,7 @@ mod made_names;
 mod made_rules;
 mod made_sessions;
 mod made_splits;
+mod made_symbols;
 mod made_terms;
 mod made_turns;
 mod negatives;
@@ -93,6 +95,7 @@ mod shapes;
 mod strict;
 mod strict_lists;
 mod strict_prints;
+mod symbol_groups;
 mod tally;
 mod timing;
 mod turn_books;
@@ -121,8 +124,9 @@ use std::thread;
 use tally::Tally;
 
 /// What is compared, part by part.
-const PARTS: [fn(&mut Tally); 17] = [
+const PARTS: [fn(&mut Tally); 18] = [
     book::run,
+    symbol_groups::run,
     scratches::run,
     references::run,
     printing::run,

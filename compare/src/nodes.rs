@@ -34,13 +34,14 @@ const FEW: usize = 5;
 /// How calls end.
 pub const PASS_OR_FAIL: [Outcome; 3] =
     [Outcome::Passed, Outcome::FailedAtOnce, Outcome::FailedLater];
-const REFUSED: [Outcome; 7] = [
+const REFUSED: [Outcome; 8] = [
     Outcome::Refused(1),
     Outcome::Refused(2),
     Outcome::Refused(3),
     Outcome::Refused(4),
     Outcome::Refused(5),
     Outcome::Refused(6),
+    Outcome::Refused(28),
     Outcome::Refused(7),
 ];
 
@@ -109,7 +110,7 @@ fn made_groups(tally: &mut Tally) {
         }
         first?;
         met.all_of(&PASS_OR_FAIL)?;
-        met.all_of(&[2, 4, 5].map(Outcome::Refused))
+        met.all_of(&[2, 4, 5, 28].map(Outcome::Refused))
     });
 }
 

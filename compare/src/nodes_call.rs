@@ -6,7 +6,7 @@ use crate::buffers::Fenced;
 use crate::nodes_library::{self as library, NodesTested, FAILS, PASS};
 use crate::scratch_bytes::{are_left, LEAST};
 use crate::session_library::{self, Buffers};
-use crate::strict::{is_readable, read_whole};
+use crate::strict::{read_whole, reading_of};
 use crate::tally::Met;
 use leskofar_reference::book::{number_at, NUMBER_SIZE};
 use leskofar_reference::book_test::SCRATCH_SIZE;
@@ -123,13 +123,16 @@ impl NodesCall<'_> {
 
     /// Of an accepted call: the library's moves, each on a fresh image, are
     /// accepted before the position and refused 9 there. Their text is read
-    /// strictly where the names are sane.
+    /// strictly where the operators are sane.
     pub fn compare_with_moves(self, tested: NodesTested, moves: &mut Moves) -> Result<(), String> {
         let failing = (tested.result == FAILS).then_some(tested.position as usize);
-        let readable = is_readable(self.book);
+        let reading = reading_of(self.book);
         for (at, node) in numbers(self.nodes).into_iter().enumerate() {
             let (refusal, text) = moves.make(self.book, node);
-            let commands = if readable { read_whole(text)? } else { 0 };
+            let commands = match reading {
+                Some(reading) => read_whole(reading, text)?,
+                None => 0,
+            };
             moves.read += commands;
             let fails = failing == Some(at);
             if refusal != if fails { MISSING_AXIOM } else { 0 } {

@@ -12,7 +12,7 @@ pub const SHORT_ROOMS: [usize; 3] = [0, 1, 100];
 /// How much longer than its text a buffer is, at most.
 pub const LONGER: usize = 9;
 /// The numbers of the refusals that a call on a book has.
-pub const ON_A_BOOK: [u32; 9] = [0, 1, 2, 3, 4, 5, 6, 7, 10];
+pub const ON_A_BOOK: [u32; 10] = [0, 1, 2, 3, 4, 5, 6, 28, 7, 10];
 
 /// What a call leaves.
 pub struct Left {

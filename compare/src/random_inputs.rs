@@ -2,7 +2,7 @@
 
 use leskofar_reference::damage::damaged;
 use leskofar_reference::random::{Random, HARDLY_EVER, OFTEN, RARELY};
-use leskofar_reference::random_books::{random_book, Counts};
+use leskofar_reference::random_books::{any_random_book, random_book, Counts};
 
 /// The usual sizes of random books, and a rare one.
 const SIZES: [usize; 5] = [1, 2, 4, 8, 16];
@@ -19,11 +19,11 @@ pub fn good_book(random: &mut Random) -> Vec<u8> {
     random_book(random, counts).book()
 }
 
-/// A book that is damaged at times.
+/// A book that is damaged at times, or has bad names.
 pub fn any_book(random: &mut Random) -> Vec<u8> {
     let size = random.pick(&SIZES);
     let counts = Counts::random(random, size);
-    let m = random_book(random, counts);
+    let m = any_random_book(random, counts);
     if random.one_in(OFTEN) {
         m.book()
     } else {

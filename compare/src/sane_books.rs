@@ -1,5 +1,5 @@
-//! Random books with sane names and good sorts: simple symbols of their own,
-//! the operators of SMT-LIB's theories with as many arguments as they take,
+//! Random books with sane names and good sorts: symbols of their own, with bars
+//! and without, the operators of SMT-LIB's theories with as many arguments as they take,
 //! and negative numbers wherever a number can stand.
 
 use crate::session_books::DEEP;
@@ -11,12 +11,25 @@ use leskofar_reference::random::{Random, AT_TIMES, HARDLY_EVER, OFTEN, RARELY};
 use leskofar_reference::smtlib::signatures::{operators, signature, Signature};
 use std::collections::BTreeMap;
 
-/// Simple symbols of every sign, some nearly words or numbers.
-const TYPES: [&str; 3] = ["T", "Shade-2", "int?"];
-const CONSTANTS: [&str; 12] = [
-    "x", "box_1", "-x", "--5", "+5", "a.b", "let!", "Push", "%tag", "<>", "~&^", "y@$/*",
+/// Simple symbols of every sign, some nearly words or numbers; names that need
+/// bars, reserved words among them; and names that have them.
+const TYPES: [&str; 5] = ["T", "Shade-2", "int?", "red 40", "let"];
+const CONSTANTS: [&str; 18] = [
+    "x", "box_1", "-x", "--5", "+5", "a.b", "let!", "Push", "%tag", "<>", "~&^", "y@$/*", "40",
+    "dark red", "|as is|", "forall", "-5", "||",
 ];
-const FUNCTIONS: [&str; 5] = ["f", "g-1", "=f", "-f", "true?"];
+const FUNCTIONS: [&str; 8] = [
+    "f",
+    "g-1",
+    "=f",
+    "-f",
+    "true?",
+    "dye of",
+    "|f g|",
+    "declare-fun",
+];
+/// A type that no literal is of.
+const BARRED_TYPE: &str = "|as is|";
 /// What stands in a literal's name between bars.
 const LITERALS: [&str; 6] = ["red", "dark blue", "", "-5", "(- 5)", "a:b;"];
 const TAG: &str = "%tag";
@@ -39,6 +52,7 @@ pub fn sane_book(random: &mut Random) -> Maker {
         maker: Maker::default(),
         names: BTreeMap::new(),
         types: vec![BOOL, INT],
+        barred: None,
         constants: Vec::new(),
         functions: Vec::new(),
     };
@@ -64,6 +78,7 @@ struct Writer<'r> {
     /// Of operators and literals.
     names: BTreeMap<&'static str, u32>,
     types: Vec<u32>,
+    barred: Option<u32>,
     /// Each with its type.
     constants: Vec<[u32; 2]>,
     functions: Vec<Function>,
@@ -75,6 +90,9 @@ impl Writer<'_> {
             let typ = self.maker.user_type(name);
             self.types.push(typ);
         }
+        let barred = self.maker.user_type(BARRED_TYPE);
+        self.barred = Some(barred);
+        self.types.push(barred);
         // Of each type one at least.
         for (number, name) in CONSTANTS.into_iter().enumerate() {
             let typ = match self.types.get(number) {
@@ -159,7 +177,7 @@ impl Writer<'_> {
             let b = self.random.one_in(OFTEN);
             return self.maker.boolean(b);
         }
-        if self.random.one_in(AT_TIMES) {
+        if self.barred != Some(sort) && self.random.one_in(AT_TIMES) {
             let text = self.random.pick(&LITERALS);
             return self.literal(text, sort);
         }

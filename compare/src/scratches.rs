@@ -40,7 +40,7 @@ const CALLS: [(&str, &[u32]); 20] = [
     ("record_trace_point", &[7, 10]),
 ];
 /// What every call is refused for, by its scratch and by its book.
-const OF_SCRATCH_AND_BOOK: [u32; 6] = [1, 2, 3, 4, 5, 6];
+const OF_SCRATCH_AND_BOOK: [u32; 7] = [1, 2, 3, 4, 5, 6, 28];
 
 /// How a call ended.
 #[derive(Clone, Copy, PartialEq, Eq, PartialOrd, Ord)]

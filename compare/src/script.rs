@@ -3,14 +3,15 @@
 
 use crate::made_sessions::own_axiom;
 use crate::made_terms::nests;
+use crate::sane::Reading;
 use crate::sane_books::sane_book;
-use crate::strict::{is_readable, read_whole};
+use crate::strict::{read_whole, reading_of};
 use crate::tally::{Met, Tally};
 use leskofar_reference::book::{number_at, INT, NUMBER_SIZE};
 use leskofar_reference::damage::damaged;
 use leskofar_reference::maker::{sample, Maker};
 use leskofar_reference::random::{Random, AT_TIMES, HARDLY_EVER, OFTEN, RARELY};
-use leskofar_reference::random_books::{random_book, Counts};
+use leskofar_reference::random_books::{any_random_book, Counts};
 use leskofar_reference::script;
 use leskofar_reference::script::{ASK, CALL_SIZE, INPUT_MOST, MOVE, TEXT_SIZE};
 use std::io::Write;
@@ -40,7 +41,7 @@ const CHECK: &str = "(check-sat)\n";
 /// Beside the refusals' numbers: a stop, and 0 for an output without either.
 const STOP: u32 = 100;
 /// What random books and calls meet always, and at times: a text that is too long.
-const RANDOM: [u32; 9] = [0, 2, 3, 4, 5, 6, 7, 9, STOP];
+const RANDOM: [u32; 10] = [0, 2, 3, 4, 5, 6, 28, 7, 9, STOP];
 const AT_TIMES_MET: [u32; 1] = [10];
 
 pub fn input(book: &[u8], calls: &[[u32; 3]]) -> Vec<u8> {
@@ -83,8 +84,8 @@ fn compare(input: &[u8], met: &mut Met) -> Result<Vec<u8>, String> {
         let at = written.iter().zip(&expected).take_while(|(a, b)| a == b);
         return Err(format!("another text at byte {} of {input:?}", at.count()));
     }
-    if book_of(input).is_some_and(is_readable) {
-        read_whole(&written)?;
+    if let Some(reading) = book_of(input).and_then(reading_of) {
+        read_whole(reading, &written)?;
     }
     let text = String::from_utf8_lossy(&expected);
     let mut quiet = true;
@@ -159,7 +160,7 @@ pub fn run(tally: &mut Tally) {
                 return Err("crates/script/stdout is not the reference's".into());
             }
             // What the program says for itself is a comment.
-            read_whole(&stdout)?;
+            read_whole(Reading::Strict, &stdout)?;
             met.all_of(&[7, STOP])
         },
     );
@@ -229,7 +230,8 @@ pub fn run(tally: &mut Tally) {
         for _ in 0..sane_inputs {
             let maker = sane_book(&mut random);
             let calls = random_calls(&mut random, &maker);
-            commands += read_whole(&compare(&input(&maker.book(), &calls), &mut met)?)?;
+            let text = compare(&input(&maker.book(), &calls), &mut met)?;
+            commands += read_whole(Reading::Strict, &text)?;
         }
         if commands == 0 {
             return Err("no command was read strictly".into());
@@ -248,7 +250,7 @@ pub fn run(tally: &mut Tally) {
                 let size = random.pick(&SIZES);
                 Counts::random(&mut random, size)
             };
-            let maker = random_book(&mut random, counts);
+            let maker = any_random_book(&mut random, counts);
             let book = if random.one_in(AT_TIMES) {
                 damaged(&mut random, &maker)
             } else {

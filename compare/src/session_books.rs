@@ -8,12 +8,12 @@ use leskofar_reference::book_test::MOST_DEPTH;
 use leskofar_reference::maker::Maker;
 use leskofar_reference::random::{Random, AT_TIMES, OFTEN};
 
-const TYPE_NAMES: [&str; 3] = ["c", "b:c", ""];
+const TYPE_NAMES: [&str; 3] = ["c", "b:c", "b c"];
 /// Texts of literals, with the name of a type: two names are equal.
 const LITERALS: [(&str, &str); 5] = [
     ("a:b", "c"),
     ("a", "b:c"),
-    ("", ""),
+    ("", "b c"),
     ("%tag", "c"),
     ("%ta", "c"),
 ];
@@ -90,11 +90,15 @@ impl Writer<'_> {
             }
         }
         self.operators = OPERATORS.map(|name| self.maker.name(name)).into();
-        for name in ["x", "y", ""].into_iter().cycle().take(CONSTANTS) {
+        for name in ["x", "|y|", "x y"].into_iter().cycle().take(CONSTANTS) {
             let typ = self.typ();
             self.maker.constant(name, typ);
         }
-        for name in ["f", "g", "", "x"].into_iter().cycle().take(FUNCTIONS) {
+        for name in ["f", "let", "|g h|", "x"]
+            .into_iter()
+            .cycle()
+            .take(FUNCTIONS)
+        {
             let inputs: Vec<u32> = (0..self.random.up_to(FEW)).map(|_| self.typ()).collect();
             let typ = self.typ();
             self.maker.function(name, &inputs, typ);

@@ -87,7 +87,8 @@ fn letter_groups(tally: &mut Tally) {
         || {
             let mut tour = Tour::new();
             for offset in 0..STEP {
-                for length in 0..=LONGEST {
+                // A type has a name.
+                for length in 1..=LONGEST {
                     finds(&mut tour, &nearly_one_type(length, offset), 1)?;
                 }
             }
@@ -161,9 +162,9 @@ fn split_groups(tally: &mut Tally) {
     tally.group("session, literals of one text by two splits", || {
         let mut tour = Tour::new();
         for between in BETWEEN {
-            for behind in 0..=PART {
+            for behind in 1..=PART {
                 // By the second split each text, with a part changed too.
-                let parts = 1 + usize::from(between > 0) + usize::from(behind > 0);
+                let parts = 2 + usize::from(between > 0);
                 let found = (PART + 1) * parts + PART;
                 finds(&mut tour, &two_colons(PART, between, behind), found)?;
             }
@@ -172,7 +173,8 @@ fn split_groups(tally: &mut Tally) {
     });
     tally.group("session, two splits with each letter changed", || {
         let mut tour = Tour::new();
-        for second in 1..SPLIT_LETTERS {
+        // Behind the second colon stands a type, which has a name.
+        for second in 1..SPLIT_LETTERS - 1 {
             for first in 0..second {
                 // By the second split each text but the two that lack a colon.
                 let found = SPLIT_LETTERS - 1;

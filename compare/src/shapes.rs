@@ -2,8 +2,9 @@
 
 use leskofar_reference::lower::TAG;
 use leskofar_reference::program::{Program, RExpr, ROperator};
+use leskofar_reference::symbols::symbol_text;
 
-pub const SHAPES: [&str; 18] = [
+pub const SHAPES: [&str; 21] = [
     "boolean",
     "integer",
     "negative integer",
@@ -12,9 +13,12 @@ pub const SHAPES: [&str; 18] = [
     "literal",
     "%tag",
     "constant",
-    "empty constant name",
+    "constant between bars",
+    "constant that gets bars",
     "built-in operator",
     "function",
+    "function between bars",
+    "function that gets bars",
     "empty operator name",
     "no arguments",
     "if-then-else",
@@ -23,6 +27,23 @@ pub const SHAPES: [&str; 18] = [
     "quantifier without variables",
     "empty pattern",
 ];
+
+/// The bars around a name that is printed.
+enum Bars {
+    Own,
+    Added,
+    None,
+}
+
+fn bars(name: &[u8]) -> Bars {
+    if name.starts_with(b"|") {
+        Bars::Own
+    } else if symbol_text(name) != name {
+        Bars::Added
+    } else {
+        Bars::None
+    }
+}
 
 /// Visits the shapes of every part of a term.
 pub fn visit(program: &Program, term: usize, see: &mut impl FnMut(&'static str)) {
@@ -33,16 +54,20 @@ pub fn visit(program: &Program, term: usize, see: &mut impl FnMut(&'static str))
         RExpr::Integer(..0) => see("negative integer"),
         RExpr::Integer(_) => see("integer"),
         RExpr::CustomLiteral { s, .. } => see(if *s == TAG { "%tag" } else { "literal" }),
-        RExpr::Id(v) if program.constants[*v].name.is_empty() => see("empty constant name"),
-        RExpr::Id(_) => see("constant"),
+        RExpr::Id(v) => see(match bars(program.constants[*v].name) {
+            Bars::Own => "constant between bars",
+            Bars::Added => "constant that gets bars",
+            Bars::None => "constant",
+        }),
         RExpr::FuncAppl { op, args } => {
-            let (shape, name) = match op {
-                ROperator::BuiltInOperator(name) => ("built-in operator", *name),
-                ROperator::UserDefinedFunction(f) => ("function", program.functions[*f].name),
-            };
-            see(shape);
-            if name.is_empty() {
-                see("empty operator name");
+            match op {
+                ROperator::BuiltInOperator(b"") => see("empty operator name"),
+                ROperator::BuiltInOperator(_) => see("built-in operator"),
+                ROperator::UserDefinedFunction(f) => see(match bars(program.functions[*f].name) {
+                    Bars::Own => "function between bars",
+                    Bars::Added => "function that gets bars",
+                    Bars::None => "function",
+                }),
             }
             if args.is_empty() {
                 see("no arguments");

@@ -1,8 +1,9 @@
 //! The strict reader of SMT-LIB 2.6 beside a list of calls on a book with sane
-//! names: it reads every line of their text, and the prints of the goals.
+//! operators: it reads every line of their text, and the prints of the goals,
+//! and finds each declared symbol to be a name of the book without its bars.
 
 use crate::print_call::{Print, FLAGS, ONE_LINE};
-use crate::sane::is_sane;
+use crate::sane::{reading, Reading, Symbols};
 use crate::scratch_bytes::LEAST;
 use crate::tally::Met;
 use leskofar_reference::book_test::check;
@@ -10,15 +11,25 @@ use leskofar_reference::commands::LINE_END;
 use leskofar_reference::program::Program;
 use leskofar_reference::smtlib::Reader;
 
-/// Whether the text of a book is to be read: it is good, and has sane names.
-pub fn is_readable(book: &[u8]) -> bool {
-    check(book).is_ok_and(|program| is_sane(book, &program))
+/// How the text of a book is to be read; not at all where it is refused, or its
+/// operators are not sane.
+pub fn reading_of(book: &[u8]) -> Option<Reading> {
+    let program = check(book).ok()?;
+    reading(&program)
+}
+
+pub fn reader(reading: Reading) -> Reader {
+    let mut reader = Reader::default();
+    if reading == Reading::Grammar {
+        reader.read_grammar_alone();
+    }
+    reader
 }
 
 /// Reads all text of a session, and gives how many commands it has. What is no
 /// command is a comment.
-pub fn read_whole(text: &[u8]) -> Result<usize, String> {
-    Reader::default()
+pub fn read_whole(reading: Reading, text: &[u8]) -> Result<usize, String> {
+    reader(reading)
         .read(text)
         .map_err(|refused| format!("strictly, {refused}, in {}", text.escape_ascii()))
 }
@@ -30,18 +41,45 @@ const TAG: u64 = 1 << 63;
 
 pub struct Strict {
     reader: Reader,
+    symbols: Symbols,
 }
 
 impl Strict {
-    /// None where the book's names are not sane.
-    pub fn new(book: &[u8], program: &Program) -> Option<Strict> {
-        is_sane(book, program).then(|| Strict {
-            reader: Reader::default(),
+    /// None where the book's operators are not sane.
+    pub fn new(program: &Program) -> Option<Strict> {
+        let reading = reading(program)?;
+        Some(Strict {
+            reader: reader(reading),
+            symbols: Symbols::of(program),
         })
+    }
+
+    /// Goes on with a book that has grown, if it can.
+    pub fn go_on(mut self, program: &Program) -> Option<Strict> {
+        if reading(program)? == Reading::Grammar {
+            self.reader.read_grammar_alone();
+        }
+        self.symbols = Symbols::of(program);
+        Some(self)
     }
 
     /// Reads a text, each line of which is one command, and gives how many.
     pub fn read(&mut self, text: &[u8]) -> Result<usize, String> {
+        let known = [self.reader.sorts.len(), self.reader.functions.len()];
+        let lines = self.read_lines(text)?;
+        let [sorts, functions] = known;
+        let sorts = self.reader.sorts[sorts..].iter();
+        let functions = self.reader.functions[functions..].iter();
+        let mut strangers = sorts
+            .filter(|sort| !self.symbols.sorts.contains(*sort))
+            .chain(functions.filter(|function| !self.symbols.functions.contains(*function)));
+        match strangers.next() {
+            Some(symbol) => Err(format!("no name is {}", symbol.escape_ascii())),
+            None => Ok(lines),
+        }
+    }
+
+    fn read_lines(&mut self, text: &[u8]) -> Result<usize, String> {
         let mut lines = 0;
         for line in text.split_inclusive(|byte| *byte == LINE_END) {
             let line_shown = line.escape_ascii();

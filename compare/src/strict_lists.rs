@@ -2,6 +2,7 @@
 //! of SMT-LIB 2.6 reads.
 
 use crate::calls::{Call, Measure, OK};
+use crate::clashing_books::clashing_book;
 use crate::lists::on_book;
 use crate::sane::is_sane;
 use crate::sane_books::sane_book;
@@ -23,13 +24,10 @@ const SAMPLES: &str = concat!(env!("CARGO_MANIFEST_DIR"), "/../samples");
 const PLAN: &str = "plan";
 const SEED: u64 = 0x7374_7269;
 const LISTS: usize = 4_000;
+const CLASHING_LISTS: usize = 2_000;
 const CHAINS: usize = 200;
 /// What a book with sane names cannot have.
-const NEVER: [&str; 3] = [
-    "empty constant name",
-    "empty operator name",
-    "empty pattern",
-];
+const NEVER: [&str; 2] = ["empty operator name", "empty pattern"];
 
 /// Asks questions, each a node and a goal, of which every other one is proved.
 pub fn ask_all(
@@ -62,7 +60,7 @@ pub fn ask_all(
 pub fn checked_as_sane(m: &Maker) -> Result<(), String> {
     let book = m.book();
     let program = check(&book).map_err(|refusal| format!("refused {refusal}"))?;
-    if is_sane(&book, &program) {
+    if is_sane(&program) {
         Ok(())
     } else {
         Err(format!("names are not sane, of {book:?}"))
@@ -123,4 +121,23 @@ pub fn run(tally: &mut Tally) {
         let read = seen.read_strictly()?;
         Ok(format!("{lists} lists, {read}, accepted: {results}"))
     });
+    let lists = tally.share(CLASHING_LISTS);
+    tally.group(
+        "strict, random books whose names clash, by the grammar",
+        || {
+            let mut seen = Seen::default();
+            let mut measure = Measure::new();
+            let mut random = Random::new(SEED);
+            let mut other = fresh_image().to_vec();
+            for _ in 0..lists {
+                let m = clashing_book(&mut random);
+                if checked_as_sane(&m).is_ok() {
+                    return Err(format!("no names clash, of {m:?}"));
+                }
+                other = random_list(&mut random, &m, &other, &mut measure, &mut seen)?;
+            }
+            let read = seen.read_strictly()?;
+            Ok(format!("{lists} lists, {read}"))
+        },
+    );
 }

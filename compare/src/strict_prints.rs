@@ -1,16 +1,19 @@
-//! The strict reader of SMT-LIB 2.6 on prints of terms: where a book's names
-//! are sane, all its symbols are declared beforehand.
+//! The strict reader of SMT-LIB 2.6 on prints of terms: where a book's operators
+//! are sane. All its symbols are declared beforehand, each as a name of the book
+//! without its bars.
 
-use crate::sane::is_sane;
+use crate::sane::Symbols;
+use crate::strict::{reader, reading_of};
 use leskofar_reference::commands::{declare_function, declare_sort};
 use leskofar_reference::lower::{custom_literal_to_sexpr_name, TAG};
 use leskofar_reference::program::{Program, RExpr, SType};
 use leskofar_reference::sink::Sink;
 use leskofar_reference::smtlib::Reader;
-use std::collections::BTreeMap;
+use leskofar_reference::symbols::symbol_text;
+use std::collections::{BTreeMap, BTreeSet};
 
 pub struct Prints {
-    /// None where the book's names are not sane.
+    /// None where the book's operators are not sane.
     reader: Option<Reader>,
     /// How many prints were read.
     pub read: usize,
@@ -22,11 +25,19 @@ impl Prints {
             reader: None,
             read: 0,
         };
-        if is_sane(book, program) {
-            let mut reader = Reader::default();
+        if let Some(reading) = reading_of(book) {
+            let mut reader = reader(reading);
             reader
                 .read(&declarations(program))
                 .map_err(|refused| format!("strictly, {refused}, in declarations"))?;
+            let Symbols {
+                sorts, functions, ..
+            } = Symbols::of(program);
+            let declared = [&reader.sorts, &reader.functions]
+                .map(|symbols| symbols.iter().cloned().collect::<BTreeSet<Vec<u8>>>());
+            if declared != [sorts, functions] {
+                return Err(format!("other symbols are declared than {book:?} has"));
+            }
             prints.reader = Some(reader);
         }
         Ok(prints)
@@ -48,17 +59,21 @@ impl Prints {
 fn declarations(program: &Program) -> Vec<u8> {
     let mut sink = Sink::unlimited();
     for typ in &program.types {
-        declare_sort(typ.name, &mut sink);
+        declare_sort(&symbol_text(typ.name), &mut sink);
     }
     let mut declare = |name: &[u8], inputs: &[SType], output: SType| {
         let inputs = SType::types_to_sexpr(inputs, program);
         declare_function(name, &inputs, &output.to_sexpr(program), &mut sink);
     };
     for constant in &program.constants {
-        declare(constant.name, &[], constant.typ);
+        declare(&symbol_text(constant.name), &[], constant.typ);
     }
     for function in &program.functions {
-        declare(function.name, &function.input_types, function.typ);
+        declare(
+            &symbol_text(function.name),
+            &function.input_types,
+            function.typ,
+        );
     }
     let mut literals = BTreeMap::new();
     for term in &program.terms {

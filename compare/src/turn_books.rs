@@ -16,7 +16,7 @@ use leskofar_reference::refusal::{CONTENTS, DEPTH, SCRATCH_SHORT, SESSION, TOO_D
 const SEED: u64 = 0x7475_726E;
 /// Nodes of the sessions on books that are too deep.
 const NODES: [u32; 5] = [0, 1, 64, 65, 400];
-const BOOK_REFUSALS: [u32; 6] = [1, 2, 3, 4, 5, 6];
+const BOOK_REFUSALS: [u32; 7] = [1, 2, 3, 4, 5, 6, 28];
 
 /// Sessions of a turn's kind on a chain: fresh, and at a node that a narrow
 /// session may not have. And none: at a node that is not there, of the other
@@ -105,7 +105,7 @@ fn order_groups(tally: &mut Tally) {
             }
         });
         first?;
-        met.only(&[0, 2, 4, 5], &[0, 2, 4, 5])
+        met.only(&[0, 2, 4, 5, 28], &[0, 2, 4, 5, 28])
     });
 }
 

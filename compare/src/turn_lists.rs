@@ -41,7 +41,7 @@ const ASIDE: usize = 6;
 /// The largest level that a byte holds.
 const BYTE: usize = u8::MAX as usize;
 /// What both turns answer, and what only the turn back does.
-const ANSWERS: [u32; 8] = [0, 1, 2, 3, 4, 5, 6, 20];
+const ANSWERS: [u32; 9] = [0, 1, 2, 3, 4, 5, 6, 28, 20];
 
 const LARGE_NUMBER: &str = "a node's number above 64 and its depth not";
 const SMALL_LEVELS: &str = "deeper than 64 with levels up to 64";

@@ -7,6 +7,7 @@ use leskofar_reference::book::{Section, INT};
 use leskofar_reference::book_test::MOST_DEPTH;
 use leskofar_reference::filled_books::filled_up;
 use leskofar_reference::maker::Maker;
+use leskofar_reference::name_faults::declarable_name;
 use leskofar_reference::random::{Random, HARDLY_EVER, OFTEN};
 use leskofar_reference::random_books::{random_book, Counts};
 
@@ -45,7 +46,7 @@ pub fn growing_book(random: &mut Random) -> Maker {
     let has_room = m.terms.len() + Section::Contexts.most() <= Section::Terms.most();
     let count = section.most() - random.below(LACKING);
     let fits = m.count(section) <= count && (section != Section::Contexts || has_room);
-    if random.one_in(OFTEN) && fits && !m.names.is_empty() {
+    if random.one_in(OFTEN) && fits && declarable_name(&m).is_some() {
         m = filled_up(m, section, count);
     }
     m

@@ -6,7 +6,7 @@ use crate::lists::{room as text_room, List};
 use crate::random_calls::random_call;
 use crate::scratch_bytes::LEAST;
 use crate::seen::Seen;
-use crate::strict::is_readable;
+use crate::strict::reading_of;
 use crate::tally::Met;
 use crate::writer::{compare, room};
 use crate::writer_call::{Given as GrowthGiven, Growth};
@@ -175,10 +175,11 @@ fn is_within(call: &Call, m: &Maker) -> bool {
 fn random_growth(random: &mut Random, list: &List) -> Growth {
     let stock = Stock::of(list.maker());
     let mut growth = stock.growth(random);
-    if is_readable(list.book()) {
+    let reading = reading_of(list.book());
+    if reading.is_some() {
         let spoils = |growth: &Growth| {
             let new_book = growth.new_book(list.book());
-            new_book.is_some_and(|book| !is_readable(&book))
+            new_book.is_some_and(|book| reading_of(&book) != reading)
         };
         for _ in 0..DRAWS {
             if spoils(&growth) {

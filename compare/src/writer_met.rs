@@ -38,15 +38,15 @@ impl Display for End {
 /// can have.
 const REFUSALS: [(bool, &[u32]); CALL_NAMES.len()] = [
     (false, &[3, 4]),
-    (false, &[3, 4]),
-    (false, &[3, 4, 5]),
+    (false, &[3, 4, 28]),
+    (false, &[3, 4, 5, 28]),
     (true, &[3, 4, 5, 6]),
     (true, &[3, 4, 5, 6]),
     (true, &[3, 4, 5, 6]),
     (true, &[3, 4, 5, 6]),
     (true, &[3, 4, 6]),
 ];
-const RECEIVED: [u32; 5] = [2, 3, 4, 5, 6];
+const RECEIVED: [u32; 6] = [2, 3, 4, 5, 6, 28];
 
 pub fn call_name(growth: &Growth) -> &'static str {
     let at = match growth {
@@ -67,8 +67,8 @@ impl End {
         let refusal = grown.answer.refusal;
         let of = match refusal {
             0 => Of::Accepted,
-            2..=6 if check(book).is_err() => Of::Received(refusal),
-            3..=6 => Of::Grown(refusal),
+            2..=6 | 28 if check(book).is_err() => Of::Received(refusal),
+            3..=6 | 28 => Of::Grown(refusal),
             _ => Of::Call(refusal),
         };
         let call = call_name(growth);

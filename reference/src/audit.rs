@@ -38,8 +38,8 @@ struct Question {
     goal: u32,
 }
 
-/// Audits a script: refusals 1 to 7, 9, 25, 26 and 27, 3 also for a script that
-/// is too long. The questions are node and goal in turn; each refusal is
+/// Audits a script: refusals 1 to 6, 28, 7, 9, 25, 26 and 27, 3 also for a
+/// script that is too long. The questions are node and goal in turn; each refusal is
 /// decided for all of them before the next.
 pub fn audit(
     book: &[u8],

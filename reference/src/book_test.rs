@@ -1,11 +1,13 @@
-//! The book test: refusals 1 to 6, each decided for the whole book before the
-//! next.
+//! The book test: refusals 1 to 6 and 28, each decided for the whole book before
+//! the next.
 
 use crate::book::{
     kind, Book, Range, Section, CONTENTS_SIZE, FIRST_USER_TYPE, NO_TERM, TERM_FIELDS,
 };
-use crate::program::Program;
-use crate::refusal::{refuse_if, CONTENTS, COUNT, DEPTH, FIELD, FOREST, SCRATCH_SHORT};
+use crate::lower::TAG;
+use crate::program::{Program, RExpr};
+use crate::refusal::{refuse_if, BAD_NAME, CONTENTS, COUNT, DEPTH, FIELD, FOREST, SCRATCH_SHORT};
+use crate::symbols::{has_bar, is_name};
 
 /// The least scratch that a call takes.
 pub const SCRATCH_SIZE: usize = 128;
@@ -15,13 +17,13 @@ pub const MOST_DEPTH: usize = 400;
 pub const FIRST_LETTER: u8 = 0x20;
 pub const LAST_LETTER: u8 = 0x7E;
 
-/// The public call: refusals 1 to 6. The scratch is zero whole afterwards,
+/// The public call: refusals 1 to 6 and 28. The scratch is zero whole afterwards,
 /// untouched under 1.
 pub fn book_test(book: &[u8], scratch: &mut [u8]) -> Result<(), u32> {
     open(book, scratch).map(|_| ())
 }
 
-/// What every call on a book begins with: refusals 1 to 6, the zero scratch,
+/// What every call on a book begins with: refusals 1 to 6 and 28, the zero scratch,
 /// and the program that the book holds.
 pub fn open<'b>(book: &'b [u8], scratch: &mut [u8]) -> Result<Program<'b>, u32> {
     refuse_if(scratch.len() < SCRATCH_SIZE, SCRATCH_SHORT)?;
@@ -29,8 +31,15 @@ pub fn open<'b>(book: &'b [u8], scratch: &mut [u8]) -> Result<Program<'b>, u32> 
     check(book)
 }
 
-/// Refusals 2 to 6, and the program of a book that passes.
+/// Refusals 2 to 6 and 28, and the program of a book that passes.
 pub fn check(bytes: &[u8]) -> Result<Program<'_>, u32> {
+    let program = check_but_names(bytes)?;
+    refuse_if(!names_pass(&program), BAD_NAME)?;
+    Ok(program)
+}
+
+/// The same but for 28, for whoever tells which names are bad.
+pub fn check_but_names(bytes: &[u8]) -> Result<Program<'_>, u32> {
     let book = Book::new(bytes).ok_or(CONTENTS)?;
     refuse_if(!is_laid_out(book), CONTENTS)?;
     refuse_if(!counts_pass(book), COUNT)?;
@@ -169,4 +178,27 @@ fn is_forest(program: &Program) -> bool {
     let from_axioms = program.axioms.iter().filter_map(|axiom| axiom.term);
     let from_contexts = program.nodes().iter().map(|node| node.expr);
     from_axioms.chain(from_contexts).all(refer)
+}
+
+/// Every type, constant and function has a name that can go to a solver, and so
+/// has every literal that is declared by one, used or not.
+fn names_pass(program: &Program) -> bool {
+    let types = program.types.iter().map(|typ| typ.name);
+    let constants = program.constants.iter().map(|constant| constant.name);
+    let functions = program.functions.iter().map(|function| function.name);
+    let mut declared = types.chain(constants).chain(functions);
+    declared.all(is_name)
+        && program
+            .terms
+            .iter()
+            .all(|term| literal_passes(program, term))
+}
+
+/// The name that a literal is printed by has bars of its own, so neither part of
+/// it holds any. That of `%tag` is never printed.
+fn literal_passes(program: &Program, term: &RExpr) -> bool {
+    match term {
+        RExpr::CustomLiteral { s, typ } if *s != TAG => !has_bar(s) && !has_bar(typ.text(program)),
+        _ => true,
+    }
 }

@@ -23,7 +23,8 @@ pub fn assume(assumed: &SExpr, sink: &mut Sink) {
     send(b")", sink);
 }
 
-/// The name is sent raw, also an empty one.
+/// The name is sent as it comes: a symbol, or a literal's name, which has bars
+/// of its own.
 pub fn declare_function(name: &[u8], inputs: &SExpr, output: &SExpr, sink: &mut Sink) {
     sink.write(b"(declare-fun ");
     sink.write(name);

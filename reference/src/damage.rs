@@ -5,6 +5,7 @@ use crate::book::{contents_place, number_at, Section, CONTENTS_SIZE, NUMBER_SIZE
 use crate::book_test::{FIRST_LETTER, LAST_LETTER, MOST_DEPTH};
 use crate::maker::Maker;
 use crate::random::{Random, AT_TIMES, HARDLY_EVER, OFTEN};
+use crate::random_names::spoil_names;
 
 /// A count this much larger closes the table modulo 2^32, since every record
 /// of numbers has a multiple of four bytes.
@@ -18,7 +19,13 @@ const FAULTS: usize = 3;
 type RecordDamage = fn(&mut Random, &mut Maker);
 type ByteDamage = fn(&mut Random, Vec<u8>) -> Vec<u8>;
 
-const RECORD_DAMAGES: [RecordDamage; 4] = [exceed_limit, refer_twice, nest_too_deep, spoil_letter];
+const RECORD_DAMAGES: [RecordDamage; 5] = [
+    exceed_limit,
+    refer_twice,
+    nest_too_deep,
+    spoil_letter,
+    spoil_names,
+];
 const BYTE_DAMAGES: [ByteDamage; 7] = [
     change_field,
     change_field,

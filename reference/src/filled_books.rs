@@ -3,6 +3,7 @@
 
 use crate::book::{kind, Section, INT, NO_TERM};
 use crate::maker::Maker;
+use crate::name_faults::declarable_name;
 
 /// A name `n`, a constant `c`, two terms that nothing refers to.
 pub fn tiny() -> Maker {
@@ -15,14 +16,15 @@ pub fn tiny() -> Maker {
 }
 
 /// The book with so many records of a section, the new ones harmless. It has
-/// a name.
+/// a name that may be declared, or gets no types, constants and functions.
 pub fn filled_up(mut m: Maker, section: Section, count: usize) -> Maker {
+    let name = declarable_name(&m).unwrap_or(0);
     match section {
         Section::Letters => m.letters.resize(count, b'x'),
         Section::Names => m.names.resize(count, [0, 0]),
-        Section::Types => m.types.resize(count, [0]),
-        Section::Constants => m.constants.resize(count, [0, INT]),
-        Section::Functions => m.functions.resize(count, [0, INT, 0, 0, 0, 0]),
+        Section::Types => m.types.resize(count, [name]),
+        Section::Constants => m.constants.resize(count, [name, INT]),
+        Section::Functions => m.functions.resize(count, [name, INT, 0, 0, 0, 0]),
         Section::Axioms => m.axioms.resize(count, [NO_TERM, 0, 0]),
         Section::Patterns => m.patterns.resize(count, [0, 0]),
         Section::Terms => m.terms.resize(count, [kind::BOOLEAN, 1, 0, 0, 0, 0, 0]),

@@ -3,8 +3,7 @@
 //! strings; these write them, since a listing may be longer than memory.
 
 use crate::book_test::open;
-use crate::lower::operator_name;
-use crate::program::{Program, RExpr};
+use crate::program::{Program, RExpr, ROperator};
 use crate::refusal::{refuse_if, NOT_IN_BOOK};
 use crate::sink::Sink;
 
@@ -12,7 +11,7 @@ use crate::sink::Sink;
 const SEPARATOR: &[u8] = b", ";
 
 /// Prints the proof obligation of a node and a goal, any term of the book:
-/// refusals 1 to 7 and 10. Accepted, the text stands at the buffer's begin and
+/// refusals 1 to 6, 28, 7 and 10. Accepted, the text stands at the buffer's begin and
 /// its length is returned; refused, the buffer is untouched.
 pub fn listing(
     book: &[u8],
@@ -78,6 +77,14 @@ fn body_to_string(program: &Program, body: usize, sink: &mut Sink) {
     sink.write(b" ");
     to_string(program, body, sink);
     sink.write(b")");
+}
+
+/// The Dafny `ToString` of an operator.
+fn operator_name<'b>(program: &Program<'b>, op: &ROperator<'b>) -> &'b [u8] {
+    match op {
+        ROperator::BuiltInOperator(name) => name,
+        ROperator::UserDefinedFunction(function) => program.functions[*function].name,
+    }
 }
 
 /// PrintUtil is not among the Dafny files; document 02 says what stands here.

@@ -15,12 +15,14 @@ pub fn to_sexpr<'b>(program: &Program<'b>, term: usize, tag: u64) -> SExpr<'b> {
         RExpr::Boolean(b) => SExpr::boolean(*b),
         RExpr::Integer(x) => SExpr::integer(*x),
         RExpr::CustomLiteral { s, typ } => literal_to_sexpr(program, s, *typ, tag),
-        RExpr::Id(v) => SExpr::name(program.constants[*v].name),
-        RExpr::FuncAppl { op, args } => {
-            SExpr::func_appl(operator_name(program, op), to_sexprs(program, args, tag))
-        }
+        RExpr::Id(v) => SExpr::symbol(program.constants[*v].name),
+        RExpr::FuncAppl { op, args } => SExpr::func_appl(
+            operator_to_sexpr(program, op),
+            to_sexprs(program, args, tag),
+        ),
         RExpr::IfThenElse { guard, thn, els } => {
-            SExpr::func_appl(b"ite", to_sexprs(program, &[*guard, *thn, *els], tag))
+            let args = to_sexprs(program, &[*guard, *thn, *els], tag);
+            SExpr::func_appl(SExpr::name(b"ite"), args)
         }
         RExpr::LetExpr { v, rhs, body } => let_to_sexpr(program, *v, *rhs, *body, tag),
         RExpr::QuantifierExpr { vv, body, .. } if vv.is_empty() => to_sexpr(program, *body, tag),
@@ -53,11 +55,13 @@ fn literal_to_sexpr<'b>(program: &Program<'b>, s: &[u8], typ: SType, tag: u64) -
     }
 }
 
-/// The Dafny `ToString` of an operator.
-pub(crate) fn operator_name<'b>(program: &Program<'b>, op: &ROperator<'b>) -> &'b [u8] {
+/// A built-in operator is the solver's own, so its name stays as it is.
+fn operator_to_sexpr<'b>(program: &Program<'b>, op: &ROperator<'b>) -> SExpr<'b> {
     match op {
-        ROperator::BuiltInOperator(name) => name,
-        ROperator::UserDefinedFunction(function) => program.functions[*function].name,
+        ROperator::BuiltInOperator(name) => SExpr::name(name),
+        ROperator::UserDefinedFunction(function) => {
+            SExpr::symbol(program.functions[*function].name)
+        }
     }
 }
 
@@ -68,10 +72,10 @@ fn let_to_sexpr<'b>(
     body: usize,
     tag: u64,
 ) -> SExpr<'b> {
-    let v = SExpr::name(program.constants[v].name);
+    let v = SExpr::symbol(program.constants[v].name);
     let binding = SExpr::PP(vec![v, to_sexpr(program, rhs, tag)]);
     let body = to_sexpr(program, body, tag);
-    SExpr::func_appl(b"let", vec![SExpr::PP(vec![binding]), body])
+    SExpr::func_appl(SExpr::name(b"let"), vec![SExpr::PP(vec![binding]), body])
 }
 
 /// A quantifier's body with its patterns behind it, if there are any.
@@ -86,7 +90,7 @@ fn annotated<'b>(program: &Program<'b>, body: usize, patterns: &[usize], tag: u6
         args.push(SExpr::name(b":pattern"));
         args.push(SExpr::PP(terms));
     }
-    SExpr::func_appl(b"!", args)
+    SExpr::func_appl(SExpr::name(b"!"), args)
 }
 
 fn quantifier_to_sexpr<'b>(
@@ -97,10 +101,11 @@ fn quantifier_to_sexpr<'b>(
 ) -> SExpr<'b> {
     let bound_vars = vv.iter().map(|v| bound_var_to_sexpr(program, *v)).collect();
     let quantifier: &[u8] = if univ { b"forall" } else { b"exists" };
-    SExpr::func_appl(quantifier, vec![SExpr::PP(bound_vars), sbody])
+    SExpr::func_appl(SExpr::name(quantifier), vec![SExpr::PP(bound_vars), sbody])
 }
 
-/// The name that a literal is declared by: `|s:type|`.
+/// The name that a literal is declared by: `|s:type|`, each part as the book has
+/// it, since the whole is between bars.
 pub fn custom_literal_to_sexpr_name(program: &Program, s: &[u8], typ: SType) -> Vec<u8> {
     [b"|", s, b":", typ.text(program), b"|"].concat()
 }
@@ -108,7 +113,7 @@ pub fn custom_literal_to_sexpr_name(program: &Program, s: &[u8], typ: SType) -> 
 fn bound_var_to_sexpr<'b>(program: &Program<'b>, v: usize) -> SExpr<'b> {
     let constant = &program.constants[v];
     SExpr::PP(vec![
-        SExpr::name(constant.name),
+        SExpr::symbol(constant.name),
         constant.typ.to_sexpr(program),
     ])
 }

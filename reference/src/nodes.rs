@@ -12,7 +12,7 @@ pub const MOST_NODES: usize = 512;
 
 /// Gives the first position of the list, counted from 0, whose node a fresh
 /// session could not move to for want of an axiom; None if it could move to
-/// each. Refusals 1 to 6, 3 for a longer list, and 7 for a node outside the
+/// each. Refusals 1 to 6, 28, 3 for a longer list, and 7 for a node outside the
 /// book, wherever it stands. Bytes behind the last whole number count as a
 /// number more, which is no node.
 pub fn nodes_test(book: &[u8], scratch: &mut [u8], nodes: &[u8]) -> Result<Option<usize>, u32> {

@@ -1,4 +1,5 @@
-//! The printing calls: a term, and a node's trace. Refusals 1 to 7 and 10.
+//! The printing calls: a term, and a node's trace. Refusals 1 to 6,
+//! 28, 7 and 10.
 
 use crate::book_test::open;
 use crate::lower::to_sexpr;

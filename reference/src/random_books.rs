@@ -2,9 +2,10 @@
 //! its limit.
 
 use crate::book::{Section, FIRST_USER_TYPE, NO_TERM};
-use crate::book_test::{FIRST_LETTER, LAST_LETTER, MOST_DEPTH};
+use crate::book_test::MOST_DEPTH;
 use crate::maker::Maker;
 use crate::random::{Random, AT_TIMES, HARDLY_EVER, OFTEN, RARELY};
+use crate::random_names::{spoil_names, Pools};
 
 /// How many records each section is to have.
 #[derive(Clone, Copy, Debug)]
@@ -36,8 +37,18 @@ impl Counts {
     }
 }
 
-/// A random book with the wanted counts. Without names there are no types,
-/// constants and functions; contexts are as many as there are terms for.
+/// A random book, most of which pass; the others are 28.
+pub fn any_random_book(random: &mut Random, counts: Counts) -> Maker {
+    let mut maker = random_book(random, counts);
+    if random.one_in(AT_TIMES) {
+        spoil_names(random, &mut maker);
+    }
+    maker
+}
+
+/// A random book with the wanted counts, which passes. Without names that may be
+/// declared there are no types, constants and functions; contexts are as many as
+/// there are terms for.
 pub fn random_book(random: &mut Random, counts: Counts) -> Maker {
     let mut writer = Writer {
         missing_axioms: random.one_in(AT_TIMES),
@@ -49,9 +60,11 @@ pub fn random_book(random: &mut Random, counts: Counts) -> Maker {
         roots: Vec::new(),
         spare: 0,
         earlier: Default::default(),
+        pools: Pools::default(),
     };
     writer.add_names();
-    if counts.of(Section::Names) > 0 {
+    writer.add_types();
+    if !writer.pools.declared.is_empty() {
         writer.add_symbols();
     }
     writer.add_axioms();
@@ -88,14 +101,7 @@ const HANGING: [Hanging; 4] = [
     Hanging::Newest,
     Hanging::Deepest,
 ];
-/// Letters that many names are made of, so that texts meet by chance.
-const COMMON_LETTERS: &[u8] = b"ab:|";
-/// Letters of a book, if it has so many: names cut from them make literals of
-/// equal text by different splits, and `%tag`.
-const FIRST_LETTERS: &[u8] = b"a:b:c%tag";
-const FIRST_NAMES: [[u32; 2]; 5] = [[0, 3], [4, 1], [0, 1], [2, 3], [5, 4]];
-/// The usual length of a name, list or argument row.
-const NAME_LENGTH: usize = 6;
+/// The usual length of a list or argument row.
 pub(crate) const LIST_LENGTH: usize = 3;
 
 pub(crate) struct Writer<'r> {
@@ -112,52 +118,17 @@ pub(crate) struct Writer<'r> {
     pub(crate) spare: usize,
     /// Earlier ranges of each usage, to overlap with.
     pub(crate) earlier: [Vec<[u32; 2]>; USAGES],
+    pub(crate) pools: Pools,
 }
 
 impl Writer<'_> {
-    fn add_names(&mut self) {
-        let letters = self.counts.of(Section::Letters);
-        self.maker.letters = (0..letters).map(|_| self.letter()).collect();
-        let has_first = letters >= FIRST_LETTERS.len();
-        if has_first {
-            self.maker.letters[..FIRST_LETTERS.len()].copy_from_slice(FIRST_LETTERS);
-        }
-        for _ in 0..self.counts.of(Section::Names) {
-            let name = if has_first && self.random.one_in(AT_TIMES) {
-                self.random.pick(&FIRST_NAMES)
-            } else {
-                let start = self.random.up_to(letters);
-                let usual = NAME_LENGTH.min(letters - start);
-                let most = if self.random.one_in(HARDLY_EVER) {
-                    letters - start
-                } else {
-                    usual
-                };
-                [start as u32, self.random.up_to(most) as u32]
-            };
-            self.maker.names.push(name);
-        }
-    }
-
-    fn letter(&mut self) -> u8 {
-        if self.random.one_in(OFTEN) {
-            self.random.pick(COMMON_LETTERS)
-        } else {
-            FIRST_LETTER + self.random.up_to(usize::from(LAST_LETTER - FIRST_LETTER)) as u8
-        }
-    }
-
     fn add_symbols(&mut self) {
-        for _ in 0..self.counts.of(Section::Types) {
-            let name = self.number_of(Section::Names);
-            self.maker.types.push([name]);
-        }
         for _ in 0..self.counts.of(Section::Constants) {
-            let constant = [self.number_of(Section::Names), self.typ()];
+            let constant = [self.declared_name(), self.typ()];
             self.maker.constants.push(constant);
         }
         for _ in 0..self.counts.of(Section::Functions) {
-            let (name, typ) = (self.number_of(Section::Names), self.typ());
+            let (name, typ) = (self.declared_name(), self.typ());
             let [inputs, input_count] = self.numbers(Usage::Types);
             let [axioms, axiom_count] = self.numbers(Usage::Axioms);
             let function = [name, typ, inputs, input_count, axioms, axiom_count];

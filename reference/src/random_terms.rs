@@ -49,8 +49,8 @@ impl Writer<'_> {
                 let x = if self.random.one_in(AT_TIMES) { any } else { x };
                 self.maker.integer(x);
             }
-            kind::CUSTOM_LITERAL if has_names => {
-                let fields = [self.number_of(Section::Names), self.typ()];
+            kind::CUSTOM_LITERAL if !self.pools.texts.is_empty() => {
+                let fields = self.literal();
                 self.maker.term(kind, fields);
             }
             kind::ID if has_constants => {

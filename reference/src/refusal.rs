@@ -19,6 +19,7 @@ pub const TOO_DEEP_FOR_NARROW: u32 = 24;
 pub const TAG_IN_BOOK: u32 = 25;
 pub const FOREIGN_LINE: u32 = 26;
 pub const CHECKS_DIFFER: u32 = 27;
+pub const BAD_NAME: u32 = 28;
 
 /// Ends the call with `number` if `fault` holds.
 pub fn refuse_if(fault: bool, number: u32) -> Result<(), u32> {
@@ -51,6 +52,7 @@ pub fn meaning(number: u32) -> &'static str {
         TAG_IN_BOOK => "the book of an audit holds a %tag literal",
         FOREIGN_LINE => "a line of a script is no command of ours, or pops the first level",
         CHECKS_DIFFER => "a script has more or fewer check-sats than there are questions",
+        BAD_NAME => "a name that cannot go to a solver: empty, or with a bar or backslash",
         _ => "no refusal's number",
     }
 }

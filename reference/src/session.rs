@@ -31,7 +31,7 @@ pub enum Replied {
     ModelOwed { text: usize },
 }
 
-/// Moves the session to a node: refusals 1 to 7, 20, 21, 9, 10. Gives the
+/// Moves the session to a node: refusals 1 to 6, 28, 7, 20, 21, 9, 10. Gives the
 /// length of the commands in `text`.
 pub fn move_to(
     book: &[u8],
@@ -45,7 +45,7 @@ pub fn move_to(
     travel(&program, image, node, None, text)
 }
 
-/// Moves the session and asks for a goal: refusals 1 to 7, 20, 21, 9, 10.
+/// Moves the session and asks for a goal: refusals 1 to 6, 28, 7, 20, 21, 9, 10.
 /// Gives the length of the commands in `text`; the image owes a reply.
 pub fn ask(
     book: &[u8],
@@ -89,7 +89,7 @@ fn travel(
 }
 
 /// Takes the solver's reply, or the error text of a check that failed:
-/// refusals 1 to 6, 20, 22, 10. Only a failed check has a reason, the error
+/// refusals 1 to 6, 28, 20, 22, 10. Only a failed check has a reason, the error
 /// text; after another reply than unsat the image owes a model.
 pub fn reply(
     book: &[u8],
@@ -123,7 +123,7 @@ pub fn reply(
 }
 
 /// Takes the reply once more and the model, if one came: refusals 1 to 6,
-/// 20, 23, 8, 10. It always leads to `Unproved`; the reason is the reply and,
+/// 28, 20, 23, 8, 10. It always leads to `Unproved`; the reason is the reply and,
 /// if a model came, a line end and the model.
 pub fn model(
     book: &[u8],

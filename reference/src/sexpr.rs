@@ -2,6 +2,7 @@
 
 use crate::program::{Program, SType};
 use crate::sink::Sink;
+use crate::symbols::symbol_text;
 use std::borrow::Cow;
 
 /// How much further the rest of a row is indented than its first part.
@@ -75,8 +76,14 @@ impl<'b> SExpr<'b> {
         }
     }
 
+    /// A word or an operator's name, as it is.
     pub fn name(name: &'b [u8]) -> SExpr<'b> {
         SExpr::S(Cow::Borrowed(name))
+    }
+
+    /// The name of a type, constant or function.
+    pub fn symbol(name: &'b [u8]) -> SExpr<'b> {
+        SExpr::S(symbol_text(name))
     }
 
     pub fn boolean(b: bool) -> SExpr<'b> {
@@ -95,18 +102,18 @@ impl<'b> SExpr<'b> {
     pub fn integer(x: i64) -> SExpr<'b> {
         let magnitude = SExpr::numeral(x.unsigned_abs());
         if x < 0 {
-            SExpr::func_appl(Self::MINUS, vec![magnitude])
+            SExpr::func_appl(SExpr::name(Self::MINUS), vec![magnitude])
         } else {
             magnitude
         }
     }
 
     /// An operator without arguments is its bare name.
-    pub fn func_appl(op: &'b [u8], args: Vec<SExpr<'b>>) -> SExpr<'b> {
+    pub fn func_appl(op: SExpr<'b>, args: Vec<SExpr<'b>>) -> SExpr<'b> {
         if args.is_empty() {
-            return SExpr::name(op);
+            return op;
         }
-        let mut parts = vec![SExpr::name(op)];
+        let mut parts = vec![op];
         parts.extend(args);
         SExpr::PP(parts)
     }
@@ -122,11 +129,11 @@ impl SType {
     pub const INT_IN_LITERAL: &'static str = "int";
 
     pub fn to_sexpr<'b>(self, program: &Program<'b>) -> SExpr<'b> {
-        SExpr::name(match self {
-            SType::SBool => b"Bool",
-            SType::SInt => b"Int",
-            SType::SUserType(decl) => program.types[decl].name,
-        })
+        match self {
+            SType::SBool => SExpr::name(b"Bool"),
+            SType::SInt => SExpr::name(b"Int"),
+            SType::SUserType(decl) => SExpr::symbol(program.types[decl].name),
+        }
     }
 
     /// The Dafny `ToString`: as it stands in a literal's name and in a listing.

@@ -14,7 +14,7 @@ use crate::session::session_in;
 /// The depth of the deepest node that a narrow session has.
 pub const NARROW_DEPTH: usize = 64;
 
-/// A narrow image into a wide one: refusals 1 to 6, and 20, also for a narrow
+/// A narrow image into a wide one: refusals 1 to 6, 28 and 20, also for a narrow
 /// session that is too deep and for a wide image of another length.
 pub fn widen(book: &[u8], scratch: &mut [u8], narrow: &[u8], image: &mut [u8]) -> Result<(), u32> {
     let program = open(book, scratch)?;
@@ -25,7 +25,7 @@ pub fn widen(book: &[u8], scratch: &mut [u8], narrow: &[u8], image: &mut [u8]) -
     Ok(())
 }
 
-/// A wide image into a narrow one: refusals 1 to 6, 20, also for a narrow image
+/// A wide image into a narrow one: refusals 1 to 6, 28, 20, also for a narrow image
 /// of another length, and 24 for a session that is too deep.
 pub fn narrow(book: &[u8], scratch: &mut [u8], image: &[u8], narrow: &mut [u8]) -> Result<(), u32> {
     let program = open(book, scratch)?;

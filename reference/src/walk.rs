@@ -6,6 +6,7 @@ use crate::lower::{custom_literal_to_sexpr_name, to_sexpr, TAG};
 use crate::program::{Program, RExpr, ROperator, SType};
 use crate::sexpr::SExpr;
 use crate::sink::Sink;
+use crate::symbols::symbol_text;
 use std::collections::BTreeSet;
 
 /// An object of the Dafny trait, by its record's number.
@@ -144,7 +145,7 @@ impl<'p, 'b, D: Declarations> Walk<'p, 'b, D> {
         if !self.declared.is_declared(marker) {
             let constant = &self.program.constants[v];
             self.declare_new_types(constant.typ);
-            self.declare_symbol_by_name(constant.name, &[], constant.typ);
+            self.declare_symbol_by_name(&symbol_text(constant.name), &[], constant.typ);
             self.declared.add(marker);
         }
     }
@@ -159,7 +160,8 @@ impl<'p, 'b, D: Declarations> Walk<'p, 'b, D> {
             self.declare_new_types(*typ);
         }
         self.declare_new_types(function.typ);
-        self.declare_symbol_by_name(function.name, &function.input_types, function.typ);
+        let name = symbol_text(function.name);
+        self.declare_symbol_by_name(&name, &function.input_types, function.typ);
         self.declared.add(marker);
         for axiom in &function.explained_by {
             self.include_axiom(*axiom);
@@ -188,7 +190,8 @@ impl<'p, 'b, D: Declarations> Walk<'p, 'b, D> {
             SType::SUserType(decl) => {
                 let marker = DeclarationMarker::Type(decl);
                 if !self.declared.is_declared(marker) {
-                    commands::declare_sort(self.program.types[decl].name, &mut self.sent);
+                    let name = symbol_text(self.program.types[decl].name);
+                    commands::declare_sort(&name, &mut self.sent);
                     self.declared.add(marker);
                 }
             }

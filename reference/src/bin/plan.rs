@@ -4,7 +4,9 @@
 
 use leskofar_reference::book_test::check;
 use leskofar_reference::plan::files::{leads_to, write_whole};
-use leskofar_reference::plan::{add_false, check_book, read, write, Complaint, Goal, Options};
+use leskofar_reference::plan::{
+    add_false, check_book, read, refused_names, write, Complaint, Goal, Options,
+};
 use leskofar_reference::refusal::meaning;
 use std::env::args_os;
 use std::ffi::OsString;
@@ -208,10 +210,16 @@ fn book(call: &Call, text: &[u8]) -> Result<(), Failure> {
     Ok(())
 }
 
-/// Every complaint on a line of its own, or a line that there is none.
+/// Every complaint on a line of its own, or a line that there is none. Of a book
+/// that is refused for its names, those are told.
 fn check_names_and_sorts(call: &Call, bytes: &[u8]) -> Result<(), Failure> {
-    let complaints = check_book(bytes);
-    let complaints = complaints.map_err(|number| Failure::refused(&call.file, number))?;
+    let complaints = match check_book(bytes) {
+        Ok(complaints) => complaints,
+        Err(number) => {
+            put(None, lines(&refused_names(bytes)).as_bytes())?;
+            return Err(Failure::refused(&call.file, number));
+        }
+    };
     let is_raw = |complaint: &Complaint| match complaint.is_of_names() {
         true => call.options.raw_names,
         false => call.options.raw_sorts,
@@ -226,16 +234,17 @@ fn check_names_and_sorts(call: &Call, bytes: &[u8]) -> Result<(), Failure> {
         let line = format!("{}: {}\n", call.file.display(), passed(call.options));
         return put(None, line.as_bytes());
     }
-    let lines: String = held
-        .iter()
-        .map(|complaint| format!("{complaint}\n"))
-        .collect();
-    put(None, lines.as_bytes())?;
+    put(None, lines(&held).as_bytes())?;
     let count = match held.len() {
         1 => "1 complaint".into(),
         count => format!("{count} complaints"),
     };
     Err(Failure::input(&call.file, count))
+}
+
+fn lines(complaints: &[Complaint]) -> String {
+    let line = |complaint: &Complaint| format!("{complaint}\n");
+    complaints.iter().map(line).collect()
 }
 
 fn passed(options: Options) -> &'static str {

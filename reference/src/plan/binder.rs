@@ -8,7 +8,7 @@ use crate::maker::Maker;
 use crate::plan::error::{refuse, Position, Result};
 use crate::plan::packing::Packer;
 use crate::plan::scope::{Scope, Symbol};
-use crate::plan::syntax::{solver_name, Item, ItemKind, Name, Place, Syntax, Term, TermKind};
+use crate::plan::syntax::{book_name, Item, ItemKind, Name, Place, Syntax, Term, TermKind};
 use crate::plan::Goal;
 use std::collections::HashMap;
 
@@ -79,12 +79,12 @@ impl<'p> Binder<'p> {
                 self.packer.check_limits(*at)
             }
             ItemKind::Type { name, given } => {
-                let solver_name = self.solver_name(name, given);
-                self.packer.maker.types.push([solver_name]);
+                let book_name = self.book_name(name, given);
+                self.packer.maker.types.push([book_name]);
                 self.packer.check_limits(name.at)
             }
             ItemKind::Constant { name, typ, given } => {
-                let record = [self.solver_name(name, given), self.scope.typ(typ)?];
+                let record = [self.book_name(name, given), self.scope.typ(typ)?];
                 self.packer.maker.constants.push(record);
                 self.packer.check_limits(name.at)
             }
@@ -95,13 +95,13 @@ impl<'p> Binder<'p> {
                 given,
                 explained_by,
             } => {
-                let solver_name = self.solver_name(name, given);
+                let book_name = self.book_name(name, given);
                 let inputs = numbers(inputs, |input| self.scope.typ(input))?;
                 let axioms = numbers(explained_by, |axiom| self.scope.axiom(axiom))?;
                 let typ = self.scope.typ(typ)?;
                 let [inputs, input_count] = self.packer.list(&inputs);
                 let [axioms, axiom_count] = self.packer.list(&axioms);
-                let record = [solver_name, typ, inputs, input_count, axioms, axiom_count];
+                let record = [book_name, typ, inputs, input_count, axioms, axiom_count];
                 self.packer.maker.functions.push(record);
                 self.packer.check_limits(name.at)
             }
@@ -145,10 +145,10 @@ impl<'p> Binder<'p> {
         }
     }
 
-    /// The number of the name that the solver sees.
-    fn solver_name(&mut self, name: &Name, given: &Option<Name>) -> u32 {
-        let seen = solver_name(name, given.as_ref());
-        self.packer.name(&seen)
+    /// The number of the name that the book has.
+    fn book_name(&mut self, name: &Name, given: &Option<Name>) -> u32 {
+        let text = book_name(name, given.as_ref());
+        self.packer.name(&text)
     }
 
     fn named_term(&mut self, name: &'p Name, term: Place) -> Result<()> {

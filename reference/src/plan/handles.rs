@@ -1,10 +1,11 @@
 //! What the records of a book are called in the text that is written for it.
 
 use crate::plan::words::{
-    is_reserved_symbol, is_reserved_type, symbol, symbol_of_name, text_of, BOOL_TYPE, INT_TYPE,
+    is_reserved_symbol, is_reserved_type, name_of_symbol, symbol, text_of, BOOL_TYPE, INT_TYPE,
     ROOT_NODE,
 };
 use crate::program::{Program, SType, ROOT};
+use crate::symbols::bare;
 use std::collections::HashSet;
 
 /// A symbol as the text has it, and the record's name if it is another.
@@ -82,31 +83,27 @@ impl Symbols {
         }
     }
 
-    /// The records' names as symbols, where they are ones and nothing before
-    /// has taken them.
-    fn own(&mut self, names: &[&[u8]]) -> Vec<Option<String>> {
+    /// The symbols that the records' names stand for, where nothing before has
+    /// taken them. A name whose bars the book need not have is given besides.
+    fn own(&mut self, names: &[&[u8]]) -> Vec<Option<Handle>> {
         let mut own = |name: &&[u8]| {
-            let name = text_of(name);
-            let text = symbol_of_name(&name)?;
-            let is_free = !(self.is_reserved)(text) && self.taken.insert(text.into());
-            is_free.then(|| symbol(text))
+            let (text, name) = (text_of(bare(name)), text_of(name));
+            let is_free = !(self.is_reserved)(&text) && self.taken.insert(text.clone());
+            is_free.then(|| Handle {
+                symbol: symbol(&text),
+                given: (name_of_symbol(&text) != name).then_some(name),
+            })
         };
         names.iter().map(&mut own).collect()
     }
 
-    fn handles(&mut self, prefix: &str, names: &[&[u8]], own: Vec<Option<String>>) -> Vec<Handle> {
+    fn handles(&mut self, prefix: &str, names: &[&[u8]], own: Vec<Option<Handle>>) -> Vec<Handle> {
         let mut handles = Vec::new();
         for (number, own) in own.into_iter().enumerate() {
-            handles.push(match own {
-                Some(symbol) => Handle {
-                    symbol,
-                    given: None,
-                },
-                None => Handle {
-                    symbol: self.made(prefix, number),
-                    given: Some(text_of(names[number])),
-                },
-            });
+            handles.push(own.unwrap_or_else(|| Handle {
+                symbol: self.made(prefix, number),
+                given: Some(text_of(names[number])),
+            }));
         }
         handles
     }

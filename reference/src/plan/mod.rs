@@ -28,7 +28,7 @@ mod tokens;
 mod words;
 mod writer;
 
-pub use check::check_book;
+pub use check::{check_book, refused_names};
 pub use complaint::{Complaint, Record};
 pub use error::{PlanError, Position};
 pub use falsehood::add_false;

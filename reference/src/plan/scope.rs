@@ -2,7 +2,7 @@
 
 use crate::book::{BOOL, FIRST_USER_TYPE, INT};
 use crate::plan::error::{refuse, Position, Result};
-use crate::plan::syntax::{solver_name, ItemKind, Name, Syntax, Term};
+use crate::plan::syntax::{book_name, ItemKind, Name, Syntax, Term};
 use crate::plan::words::{
     is_operator, is_reserved_node, is_reserved_symbol, is_reserved_type, BOOL_TYPE, INT_TYPE,
     LITERAL_SEPARATOR, ROOT_NODE,
@@ -67,7 +67,7 @@ fn unknown<T>(name: &Name, sought: &str) -> Result<T> {
 /// uses them comes later in the book.
 pub struct Scope<'p> {
     types: Names<'p, u32>,
-    /// By the name that the solver sees; the first of those that share one.
+    /// By the name that the book has; the first of those that share one.
     types_of_literals: HashMap<String, u32>,
     /// Of each constant; a type may be declared behind it.
     constant_types: Vec<&'p Name>,
@@ -105,8 +105,8 @@ impl<'p> Scope<'p> {
                 ItemKind::Type { name, given } => {
                     let number = next(&mut types);
                     scope.types.declare(name, number)?;
-                    let seen = solver_name(name, given.as_ref());
-                    scope.types_of_literals.entry(seen).or_insert(number);
+                    let text = book_name(name, given.as_ref());
+                    scope.types_of_literals.entry(text).or_insert(number);
                 }
                 ItemKind::Constant { name, typ, .. } => {
                     let number = scope.constant_types.len() as u32;

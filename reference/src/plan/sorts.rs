@@ -4,10 +4,10 @@
 use crate::book::FIRST_USER_TYPE;
 use crate::lower::TAG;
 use crate::plan::complaint::{Complaint, Record};
-use crate::plan::tokens::symbol_of;
 use crate::plan::words::{text_of, BOOL_TYPE, EXISTS, FORALL, INT_TYPE};
 use crate::program::{Program, RExpr, ROperator, SType};
 use crate::smtlib::signatures::{signature, Signature};
+use crate::symbols::bare;
 
 /// None is any sort: what an operator gives that is not known here.
 type Sort = Option<SType>;
@@ -105,7 +105,7 @@ impl Checker<'_, '_> {
                 Some(function.typ)
             }
             ROperator::BuiltInOperator(name) => {
-                let signature = signature(symbol_of(name))?;
+                let signature = signature(bare(name))?;
                 self.operation(number, name, signature, args);
                 Some(signature.gives)
             }

@@ -1,7 +1,7 @@
 //! The syntax of a plan: what the text says, names not yet resolved.
 
 use crate::plan::error::Position;
-use crate::plan::words::symbol;
+use crate::plan::words::{name_of_symbol, symbol};
 
 /// A plan's items, and the terms of all of them in one row: in the order of
 /// the text, children before their parents. That is the order of the book's
@@ -26,11 +26,11 @@ impl Name {
     }
 }
 
-/// The name that the solver sees: the given one, else the plan's own.
-pub fn solver_name(name: &Name, given: Option<&Name>) -> String {
+/// The name that the book has: the given one, else the plan's own.
+pub fn book_name(name: &Name, given: Option<&Name>) -> String {
     match given {
         Some(given) => given.text.clone(),
-        None => symbol(&name.text),
+        None => name_of_symbol(&name.text),
     }
 }
 

@@ -1,31 +1,11 @@
 //! What a solver reads as one token of SMT-LIB.
 
-use crate::plan::words::{may_stand_in_bars, BAR};
 use crate::smtlib::words::is_simple_symbol;
+use crate::symbols::is_quoted;
 
-/// A name without its bars where it stands between bars: to a solver both are
-/// the same symbol.
-pub fn symbol_of(name: &[u8]) -> &[u8] {
-    barred(name).unwrap_or(name)
-}
-
-fn barred(name: &[u8]) -> Option<&[u8]> {
-    name.strip_prefix(&[BAR as u8])?.strip_suffix(&[BAR as u8])
-}
-
+/// A symbol, reserved or not.
 pub fn is_symbol(name: &[u8]) -> bool {
-    match barred(name) {
-        Some(content) => may_stand_between_bars(content),
-        None => is_simple_symbol(name),
-    }
-}
-
-pub fn may_stand_between_bars(content: &[u8]) -> bool {
-    content
-        .iter()
-        .copied()
-        .map(char::from)
-        .all(may_stand_in_bars)
+    is_quoted(name) || is_simple_symbol(name)
 }
 
 /// A number as SMT-LIB writes it: `10`, `1.5`, `#xA0`, `#b10`.
@@ -39,13 +19,10 @@ pub fn is_number(name: &[u8]) -> bool {
     is_digits_or_decimal(name) && !has_leading_zero(name)
 }
 
-/// A symbol that some solver takes for a number, or a reader could.
-pub fn looks_like_number(symbol: &[u8]) -> bool {
-    let unsigned = symbol.strip_prefix(b"-").unwrap_or(symbol);
-    let has_prefix = [HEXADECIMAL, BINARY]
-        .iter()
-        .any(|prefix| symbol.starts_with(prefix));
-    has_prefix || is_digits_or_decimal(unsigned)
+/// A symbol that some solver takes for a number where it stands without bars, as
+/// a simple one does.
+pub fn looks_like_negative_number(symbol: &[u8]) -> bool {
+    symbol.strip_prefix(b"-").is_some_and(is_digits_or_decimal)
 }
 
 const HEXADECIMAL: &[u8] = b"#x";

@@ -46,7 +46,8 @@ const TERM_WORDS: [&str; 10] = [
     TRUE, FALSE, ITE, LET, FORALL, EXISTS, ANNOTATED, LITERAL, BUILT_IN, TAG,
 ];
 
-pub const BAR: char = '|';
+const BAR: char = '|';
+const MINUS: u8 = b'-';
 const BACKSLASH: char = '\\';
 const QUOTE: char = '"';
 
@@ -85,22 +86,33 @@ pub fn may_stand_in_bars(letter: char) -> bool {
     letter != BAR && letter != BACKSLASH
 }
 
-/// A symbol as the text has it. Since the solver reads names as they are, it
-/// is also the name that a record has if none is given.
+/// A symbol as the text has it.
 pub fn symbol(text: &str) -> String {
     if is_simple(text) {
         text.to_string()
     } else {
-        format!("{BAR}{text}{BAR}")
+        between_bars(text)
     }
 }
 
-/// The symbol whose name would be `name`, if there is one.
-pub fn symbol_of_name(name: &str) -> Option<&str> {
-    let barred = name.strip_prefix(BAR).and_then(|n| n.strip_suffix(BAR));
-    let text = barred.unwrap_or(name);
-    let has_name = text.chars().all(may_stand_in_bars) && symbol(text) == name;
-    has_name.then_some(text)
+/// The name that a symbol's record has if none is given. It goes without bars,
+/// since a literal of a type with bars can't be sent; where the solver needs
+/// them they are printed. Those that would not be printed are kept.
+pub fn name_of_symbol(text: &str) -> String {
+    if text.is_empty() || begins_as_negative(text.as_bytes()) {
+        between_bars(text)
+    } else {
+        text.to_string()
+    }
+}
+
+/// z3 reads the begin of such a symbol as a number, where it has no bars.
+fn begins_as_negative(text: &[u8]) -> bool {
+    matches!(text, [MINUS, digit, ..] if digit.is_ascii_digit())
+}
+
+fn between_bars(text: &str) -> String {
+    format!("{BAR}{text}{BAR}")
 }
 
 /// A string as the text has it: a quote inside is doubled.

@@ -12,6 +12,9 @@ use crate::smtlib::words::is_for_solvers;
 #[derive(Default)]
 pub struct Reader {
     declared: Declared,
+    /// The symbols of all declarations so far, popped or not, without bars.
+    pub sorts: Vec<Vec<u8>>,
+    pub functions: Vec<Vec<u8>>,
 }
 
 /// What a command leaves, once it is read whole.
@@ -25,6 +28,13 @@ enum Change<'t> {
 }
 
 impl Reader {
+    /// From now on no name is resolved: it may be declared twice, or be a
+    /// solver's, and stands for whatever it is used as. The grammar and the
+    /// levels are held to as before.
+    pub fn read_grammar_alone(&mut self) {
+        self.declared.resolves = false;
+    }
+
     /// Reads commands to the end of a text, and gives how many there are. Text
     /// that is no row of tokens is refused whole; else a command that is
     /// refused changes nothing, and those before it were read.
@@ -71,8 +81,14 @@ impl Reader {
             Change::Nothing => {}
             Change::Push(levels) => self.declared.push(levels),
             Change::Pop(levels) => self.declared.pop(levels),
-            Change::Sort(name, takes) => self.declared.declare_sort(name, takes),
-            Change::Function(name, takes) => self.declared.declare_function(name, takes),
+            Change::Sort(name, takes) => {
+                self.declared.declare_sort(name, takes);
+                self.sorts.push(name.into());
+            }
+            Change::Function(name, takes) => {
+                self.declared.declare_function(name, takes);
+                self.functions.push(name.into());
+            }
         }
         Ok(())
     }
@@ -101,13 +117,13 @@ impl Reader {
 
     fn declare_sort<'t>(&self, cursor: &mut Cursor<'t>) -> Result<Change<'t>> {
         cursor.advance();
-        let name = new_name(cursor, |name| self.declared.sort(name).is_some())?;
+        let name = self.new_name(cursor, |name| self.declared.sort(name).is_some())?;
         Ok(Change::Sort(name, cursor.numeral()?))
     }
 
     fn declare_function<'t>(&self, cursor: &mut Cursor<'t>) -> Result<Change<'t>> {
         cursor.advance();
-        let name = new_name(cursor, |name| self.declared.function(name).is_some())?;
+        let name = self.new_name(cursor, |name| self.declared.function(name).is_some())?;
         cursor.open("the sorts of the arguments")?;
         let mut takes = 0;
         while !cursor.is_close() {
@@ -118,17 +134,21 @@ impl Reader {
         sort(cursor, &self.declared)?;
         Ok(Change::Function(name, takes))
     }
-}
 
-/// A symbol that is not live yet, and may be declared.
-fn new_name<'t>(cursor: &mut Cursor<'t>, is_live: impl Fn(&[u8]) -> bool) -> Result<&'t [u8]> {
-    let at = cursor.at();
-    let name = cursor.symbol("a symbol")?;
-    if is_for_solvers(name) {
-        return refuse(at, format!("{} is for solvers to declare", shown(name)));
+    /// A symbol that is not live yet, and may be declared.
+    fn new_name<'t>(
+        &self,
+        cursor: &mut Cursor<'t>,
+        is_live: impl Fn(&[u8]) -> bool,
+    ) -> Result<&'t [u8]> {
+        let at = cursor.at();
+        let name = cursor.symbol("a symbol")?;
+        if self.declared.resolves && is_for_solvers(name) {
+            return refuse(at, format!("{} is for solvers to declare", shown(name)));
+        }
+        if self.declared.resolves && is_live(name) {
+            return refuse(at, format!("{} is declared already", shown(name)));
+        }
+        Ok(name)
     }
-    if is_live(name) {
-        return refuse(at, format!("{} is declared already", shown(name)));
-    }
-    Ok(name)
 }

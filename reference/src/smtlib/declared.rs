@@ -19,12 +19,24 @@ type Live = HashMap<Vec<u8>, Declaration>;
 
 /// It starts with the theories Core and Ints, which no pop takes away, and
 /// with one level.
-#[derive(Default)]
 pub struct Declared {
+    /// Whether names are looked up at all.
+    pub resolves: bool,
     /// How many levels stand above the first.
     level: usize,
     sorts: Live,
     functions: Live,
+}
+
+impl Default for Declared {
+    fn default() -> Declared {
+        Declared {
+            resolves: true,
+            level: 0,
+            sorts: Live::new(),
+            functions: Live::new(),
+        }
+    }
 }
 
 impl Declared {

@@ -5,7 +5,8 @@
 //! To the standard `-5` is a simple symbol. So where it stands for a number it
 //! is found by resolving names: a symbol in a term is declared and live, or
 //! bound, or the theories', and takes as many arguments as it has. A sort is
-//! resolved in the same way.
+//! resolved in the same way. A reader can be told to leave that out, for scripts
+//! whose names mean several things.
 //!
 //! Not checked are the sorts of terms, that a logic was set, and that a model
 //! can be had. Refused is what Core and Ints have no meaning for or the text

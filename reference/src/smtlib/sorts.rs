@@ -18,6 +18,7 @@ pub fn sort(cursor: &mut Cursor, declared: &Declared) -> Result<()> {
         (cursor.symbol(A_SORT)?, 0)
     };
     match declared.sort(name) {
+        _ if !declared.resolves => Ok(()),
         None => refuse(at, format!("the sort {} is not declared", shown(name))),
         Some(takes) if takes != given => {
             let name = shown(name);

@@ -151,6 +151,9 @@ fn annotated<'t>(cursor: &mut Cursor<'t>, scope: &mut Scope<'_, 't>) -> Result<(
 impl Scope<'_, '_> {
     /// The name at a place means something that takes so many arguments.
     fn check(&self, at: usize, name: &[u8], given: usize) -> Result<()> {
+        if !self.declared.resolves {
+            return Ok(());
+        }
         let takes = if self.bound.contains(&name) {
             Some((0, Some(0)))
         } else {

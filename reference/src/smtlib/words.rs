@@ -1,7 +1,7 @@
 //! The words of SMT-LIB 2.6 and the letters of its symbols.
 
-/// The reserved words, the names of the commands among them. A solver takes
-/// none of them as a name, z3 not even between bars.
+/// The reserved words, the names of the commands among them. Between bars they
+/// are symbols, but z3 takes some for its own even there.
 const RESERVED: [&str; 43] = [
     "!",
     "_",

@@ -3,8 +3,8 @@
 use super::{grow, refuse_outside, Appended};
 use crate::book::{kind, NUMBER_SIZE, TERM_FIELDS};
 
-/// Appends a name, also where its text stands already: refusals 1 to 6, 3 and
-/// 4 of the new book, 10.
+/// Appends a name, also where its text stands already: refusals 1 to 6, 28, 3
+/// and 4 of the new book, 10.
 pub fn append_name(
     book: &[u8],
     scratch: &mut [u8],
@@ -16,7 +16,7 @@ pub fn append_name(
     })
 }
 
-/// Appends a constant: refusals 1 to 6, 3 and 4 of the new book, 10.
+/// Appends a constant: refusals 1 to 6, 28, 3, 4 and 28 of the new book, 10.
 pub fn append_constant(
     book: &[u8],
     scratch: &mut [u8],
@@ -61,8 +61,8 @@ impl TermHanded<'_> {
     }
 }
 
-/// Appends a term and its list entries: refusals 1 to 6, 3, 4 and 5 of the new
-/// book, 4 also for what is handed over wrongly, 10.
+/// Appends a term and its list entries: refusals 1 to 6, 28, 3, 4, 5 and 28 of the
+/// new book, 4 also for what is handed over wrongly, 10.
 pub fn append_term(
     book: &[u8],
     scratch: &mut [u8],
@@ -91,7 +91,7 @@ fn numbers(list: &[u8]) -> Vec<u32> {
 }
 
 /// Appends a node; its trace is a name's number + 1, or 0 for none: refusals 1
-/// to 6, 7 for parent and term, 3 to 6 of the new book, 10.
+/// to 6, 28, 7 for parent and term, 3 to 6 of the new book, 10.
 pub fn append_node(
     book: &[u8],
     scratch: &mut [u8],

@@ -1,7 +1,7 @@
 //! `Extend`, `ExtendWithEquality`, `Record` and `RecordTracePoint` of
 //! RSolver.dfy: a new node with what it needs. Names are taken where their
-//! text stands already; all other records are new. Refusals 1 to 6, 7 for
-//! parent and term, 3 to 6 of the new book, 10.
+//! text stands already; all other records are new. Refusals 1 to 6, 28, 7
+//! for parent and term, 3 to 6 of the new book, 10.
 
 use super::draft::Draft;
 use super::{grow, refuse_outside, Appended};

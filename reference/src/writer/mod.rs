@@ -25,8 +25,8 @@ pub struct Appended {
     pub length: usize,
 }
 
-/// The order of all refusals: 1 to 6 of the book received, 7, then 3 to 6 of
-/// the book as it would become, and 10. What is handed over wrongly is 4.
+/// The order of all refusals: 1 to 6 and 28 of the book received, 7, then 3 to 6
+/// and 28 of the book as it would become, and 10. What is handed over wrongly is 4.
 /// `growth` appends to the records received, over every limit if need be, and
 /// gives the number that is answered, or 7.
 fn grow(

@@ -6,16 +6,19 @@ use leskofar_reference::book::{kind, Section};
 use leskofar_reference::book_test::check;
 use leskofar_reference::chains::{random_chain_plan, MOST_STEPS};
 use leskofar_reference::maker::Maker;
-use leskofar_reference::plan::{check_book, Complaint};
+use leskofar_reference::name_faults::{may_be_declared, may_be_in_literal, ways_of};
+use leskofar_reference::plan::{check_book, refused_names, Complaint};
 use leskofar_reference::random::{Random, AT_TIMES, OFTEN, RARELY};
-use leskofar_reference::random_books::{self, random_book};
+use leskofar_reference::random_books::{self, any_random_book, random_book};
+use leskofar_reference::refusal::BAD_NAME;
 
 const SEED: u64 = 20_260_109;
 const BOOKS: usize = 6_000;
 const CHAINS: usize = 3_000;
 /// The most damaged numbers of a book.
 const FAULTS: usize = 3;
-const SIZES: [usize; 4] = [1, 2, 4, 12];
+const LARGEST: usize = 12;
+const SIZES: [usize; 4] = [1, 2, 4, LARGEST];
 /// Each verdict is to be met in at least this share of the books.
 const SHARE: usize = 10;
 
@@ -74,34 +77,38 @@ fn records(complaints: &[&Complaint]) -> Vec<String> {
     complaints.iter().map(record).collect()
 }
 
-/// Gives the records names of their own, and now and then one of `NAMES`.
+/// Gives the records names of their own, and now and then one of `NAMES` that
+/// they may have.
 fn rename(random: &mut Random, m: &mut Maker, rate: usize) {
     let operators = [&OPERATORS[..], &UNKNOWN_OPERATORS].concat();
     let first = random.below(operators.len());
-    let mut name = |m: &mut Maker, own: String| {
+    let that = |is_fit: fn(&str) -> bool| -> Vec<&str> {
+        NAMES.into_iter().filter(|name| is_fit(name)).collect()
+    };
+    let declared = that(may_be_declared);
+    let in_literals = that(may_be_in_literal);
+    // A literal may be of any type here.
+    let types = that(|name| may_be_declared(name) && may_be_in_literal(name));
+    let mut name = |m: &mut Maker, own: String, odd: &[&str]| {
         let is_odd = rate > 0 && random.one_in(rate);
-        let name = if is_odd {
-            random.pick(&NAMES).into()
-        } else {
-            own
-        };
+        let name = if is_odd { random.pick(odd).into() } else { own };
         m.name(&name)
     };
     for number in 0..m.types.len() {
-        m.types[number][0] = name(m, format!("S{number}"));
+        m.types[number][0] = name(m, format!("S{number}"), &types);
     }
     for number in 0..m.constants.len() {
-        m.constants[number][0] = name(m, format!("c{number}"));
+        m.constants[number][0] = name(m, format!("c{number}"), &declared);
     }
     for number in 0..m.functions.len() {
-        m.functions[number][0] = name(m, format!("f{number}"));
+        m.functions[number][0] = name(m, format!("f{number}"), &declared);
     }
     for number in 0..m.terms.len() {
         match m.terms[number][0] {
-            kind::CUSTOM_LITERAL => m.terms[number][1] = name(m, "red".into()),
+            kind::CUSTOM_LITERAL => m.terms[number][1] = name(m, "red".into(), &in_literals),
             kind::BUILT_IN => {
                 let operator = operators[(first + number) % operators.len()];
-                m.terms[number][1] = name(m, operator.into());
+                m.terms[number][1] = name(m, operator.into(), &NAMES);
             }
             _ => {}
         }
@@ -131,6 +138,22 @@ fn random_books() {
     }
     println!("{verdicts:?}");
     verdicts.assert_met(BOOKS);
+}
+
+/// Names are told of exactly those books that are refused 28.
+#[test]
+fn books_refused_for_their_names() {
+    let mut random = Random::new(SEED);
+    let mut refused = 0;
+    for _ in 0..BOOKS {
+        let counts = random_books::Counts::random(&mut random, LARGEST);
+        let maker = any_random_book(&mut random, counts);
+        let told = refused_names(&maker.book());
+        assert_eq!(told.is_empty(), ways_of(&maker).is_empty(), "{maker:?}");
+        assert_eq!(!told.is_empty(), check_book(&maker.book()) == Err(BAD_NAME));
+        refused += usize::from(!told.is_empty());
+    }
+    assert!(refused >= BOOKS / SHARE, "{refused}");
 }
 
 /// One number of a book's records is another, such as still passes.

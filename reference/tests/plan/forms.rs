@@ -28,21 +28,27 @@ fn nothing() {
     }
 }
 
+/// A name goes into the book without its bars, but where these would be missed.
 #[test]
 fn symbols_and_their_names() {
     let text = "
         (type Shade) (type T :name \"Shade\") (type |a b|) (type |abc|) (type ||)
-        (constant x Int) (constant y Shade :name \"\") (constant |x y| T)
+        (constant x Int) (constant y Shade :name \"|y|\") (constant |x y| T)
         (constant z |a b| :name \"say \"\"z\"\"\")
-        (function f () Bool) (function g (Int Shade T) abc :name \"f\")";
+        (function f () Bool) (function g (Int Shade T) abc :name \"f\")
+        (constant |-5| Int) (function |-1.5| () Int) (constant -5a Int) (constant |40| Int)";
     let mut m = Maker::default();
-    let types = ["Shade", "Shade", "|a b|", "abc", "||"].map(|name| m.user_type(name));
+    let types = ["Shade", "Shade", "a b", "abc", "||"].map(|name| m.user_type(name));
     m.constant("x", INT);
-    m.constant("", types[0]);
-    m.constant("|x y|", types[1]);
+    m.constant("|y|", types[0]);
+    m.constant("x y", types[1]);
     m.constant("say \"z\"", types[2]);
     m.function("f", &[], BOOL);
     m.function("f", &[INT, types[0], types[1]], types[3]);
+    m.constant("|-5|", INT);
+    m.function("|-1.5|", &[], INT);
+    m.constant("|-5a|", INT);
+    m.constant("40", INT);
     assert_holds(text, &m);
 }
 
@@ -50,7 +56,7 @@ fn symbols_and_their_names() {
 #[test]
 fn printed_literals() {
     let text = "
-        (type S) (type |b:S|) (type T :name \"b:S\") (type U :name \"tint\")
+        (type S) (type |b:S| :name \"|b:S|\") (type T :name \"b:S\") (type U :name \"tint\")
         (constant |c:S| Int)
         (term a |red:S|) (term b |a:b:S|) (term c |:int|) (term d |a b:bool|) (term e |c:S|)
         (term f (= |red:S| |x:b:S|)) (term g |red:tint|)";
@@ -59,7 +65,7 @@ fn printed_literals() {
     m.user_type("|b:S|");
     m.user_type("b:S");
     let tint = m.user_type("tint");
-    let constant = m.constant("|c:S|", INT);
+    let constant = m.constant("c:S", INT);
     m.literal("red", s);
     m.literal("a:b", s);
     m.literal("", INT);

@@ -12,6 +12,7 @@ mod names;
 mod noise;
 mod out_files;
 mod prints;
+mod refused_names;
 mod round_trips;
 mod samples;
 mod sorts;

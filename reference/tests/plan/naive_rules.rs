@@ -180,7 +180,12 @@ fn is_unsigned_number(text: &str) -> bool {
     }
 }
 
+/// What is declared is printed as a symbol, and so is a literal; an operator is
+/// printed as it is.
 fn is_one_token(name: &[u8], of: Of) -> bool {
+    if of != Of::BuiltIn {
+        return true;
+    }
     let text: String = name.iter().map(|byte| char::from(*byte)).collect();
     let inside = bare(name);
     let is_barred = inside.len() + 2 == text.len();
@@ -205,7 +210,7 @@ fn is_one_token(name: &[u8], of: Of) -> bool {
             is_unsigned_number(&text) && is_written_short
         }
     };
-    is_symbol || of == Of::BuiltIn && is_number
+    is_symbol || is_number
 }
 
 /// Of the reserved words, those that the names of the tests can be.
@@ -214,19 +219,17 @@ const RESERVED: [&str; 5] = ["let", "exit", "_", "!", "as"];
 fn is_right_alone(name: &[u8], of: Of) -> bool {
     let inside = bare(name);
     let is_declared = matches!(of, Of::Type | Of::Constant | Of::Function);
-    let unsigned = inside.strip_prefix('-').unwrap_or(&inside);
-    let is_like_number =
-        is_unsigned_number(unsigned) || inside.starts_with("#x") || inside.starts_with("#b");
+    let is_like_number = inside.strip_prefix('-').is_some_and(is_unsigned_number);
     let is_known = match of {
         Of::Type => ["Bool", "Int"].contains(&inside.as_str()),
         Of::Constant | Of::Function => {
-            let words = ["true", "false", "ite", "let", "forall", "exists"];
+            let words = ["true", "false", "ite"];
             words.contains(&inside.as_str()) || OPERATORS.contains(&inside.as_str())
         }
         _ => false,
     };
     is_one_token(name, of)
-        && !RESERVED.contains(&inside.as_str())
+        && !(of == Of::BuiltIn && RESERVED.contains(&inside.as_str()))
         && !(is_declared && is_like_number)
         && !is_known
 }

@@ -1,5 +1,7 @@
-//! The rules of names: which are one token, and which clash.
+//! The rules of names: which can go to a solver, which are one token, and which
+//! clash.
 
+use crate::refused_names::UNSENDABLE;
 use leskofar_reference::book::{BOOL, INT};
 use leskofar_reference::maker::Maker;
 use leskofar_reference::plan::{check_book, read, Complaint, Options, PlanError};
@@ -36,13 +38,12 @@ fn assert_verdicts(item: impl Fn(&str) -> String, good: &[&str], bad: &[(&str, &
     }
 }
 
-const NO_SYMBOLS: [&str; 17] = [
-    "", " ", "a b", "1", "1a", "|", "|a", "a|", "|a|b|", "|a\\b|", "a\\", "(", "a)", "a;b", "\"\"",
-    ":k", "#x1",
+/// What is a symbol only between bars.
+const UNQUOTED: [&str; 13] = [
+    " ", "a b", "1", "1a", "(", "a)", "a;b", "\"\"", ":k", "#x1", "5", "1.5", "red 40",
 ];
-const NUMBERS_ALIKE: [&str; 8] = [
-    "-5", "|-5|", "|5|", "|007|", "|1.50|", "-1.5", "|#xyz|", "|#b|",
-];
+const NEGATIVE: [&str; 6] = ["-5", "|-5|", "-1.5", "|-1.50|", "-007", "|-0|"];
+const NUMBERS_ALIKE: [&str; 5] = ["|5|", "|007|", "|1.50|", "|#xyz|", "|#b|"];
 const RESERVED: [&str; 8] = [
     "let",
     "|let|",
@@ -71,22 +72,21 @@ const SYMBOLS: [&str; 13] = [
 
 #[test]
 fn declared_names() {
-    let bad: [(&str, &[&str]); 3] = [
-        ("a symbol of SMT-LIB", &NO_SYMBOLS),
-        ("a name that does not look like a number", &NUMBERS_ALIKE),
-        ("a name that SMT-LIB does not reserve", &RESERVED),
-    ];
+    let no_number = "a name that does not look like a negative number";
+    let bad: [(&str, &[&str]); 1] = [(no_number, &NEGATIVE)];
     // A minus alone is an operator.
-    let symbols: Vec<&str> = SYMBOLS.into_iter().filter(|name| *name != "-").collect();
+    let good = [&SYMBOLS[..], &UNQUOTED, &NUMBERS_ALIKE, &RESERVED].concat();
+    let symbols: Vec<&str> = good.iter().copied().filter(|name| *name != "-").collect();
     let typ = |name: &str| format!("(type x :name \"{name}\")");
-    assert_verdicts(typ, &SYMBOLS, &bad);
+    assert_verdicts(typ, &good, &bad);
     let constant = |name: &str| format!("(constant x Int :name \"{name}\")");
     assert_verdicts(constant, &symbols, &bad);
     let function = |name: &str| format!("(function x (Int) Int :name \"{name}\")");
     assert_verdicts(function, &symbols, &bad);
     // A plan's own name needs no `:name` to look like a number.
     let own = |name: &str| format!("(constant {name} Int)");
-    assert_verdicts(own, &["|a b|"], &[(bad[1].0, &["|-5|", "|0|", "|1.5|"])]);
+    let good = ["|a b|", "|0|", "|1.5|", "-5a"];
+    assert_verdicts(own, &good, &[(no_number, &["|-5|", "|-1.5|"])]);
 }
 
 #[test]
@@ -95,9 +95,10 @@ fn built_in_operators() {
         "0", "10", "1.50", "0.0", "#xfF09", "#b0110", "-5", "|-5|", "|#xyz|", "true", "ite", "|=|",
     ];
     let good: Vec<&str> = SYMBOLS.iter().chain(&numbers).copied().collect();
-    let no_tokens: Vec<&str> = NO_SYMBOLS
+    let no_tokens: Vec<&str> = UNSENDABLE
         .into_iter()
-        .filter(|name| !["1", "#x1"].contains(name))
+        .chain(UNQUOTED)
+        .filter(|name| !["1", "#x1", "5", "1.5"].contains(name))
         .chain([
             "#x", "#b", "#b2", "#xg", "1.", ".5.(", "1.2.3", "00", "007", "01.5", "#", "-#x1",
         ])
@@ -140,22 +141,16 @@ fn literals() {
         // `%tag` is never sent as a name, whatever its type.
         assert_eq!(names.is_ok(), is_good || s == "%tag", "{s}");
     }
+    // A type's name may have spaces, and the plan's own goes without bars.
     let of = |typ: &str| format!("(type S :name \"{typ}\")\n(term t (literal \"wool\" S))");
     assert_eq!(error(&of("thread")), None);
-    let message = "line 2, column 9: expected a literal without bars and backslashes inside, \
-                   found `|wool:|thread kind||`, of the type at line 1, column 15";
-    let error = error(&of("|thread kind|")).expect("a bar in the type's name");
-    assert_eq!(error.to_string(), message);
-    assert_eq!(error_of_own_bar(), "`|a|b:S|`");
-}
-
-fn error_of_own_bar() -> String {
-    let text = "(type S)(term t (literal \"a|b\" S))";
-    error(text).expect("a bar in the text").found
+    assert_eq!(error(&of("thread kind")), None);
+    let own = "(type |red 40|)(term t (literal \"wool\" |red 40|))";
+    assert_eq!(error(own), None);
 }
 
 /// Plans with a clash, and what is said of it.
-const CLASHES: [(&str, &str); 13] = [
+const CLASHES: [(&str, &str); 15] = [
     (
         "(constant x Int)\n(constant y Int :name \"|x|\")",
         "line 2, column 23: expected a name of its own, found `|x|`, \
@@ -164,7 +159,13 @@ const CLASHES: [(&str, &str); 13] = [
     (
         "(function x () Int :name \"a b\")\n(constant |a b| Int :name \"y\")\n\
              (function z () Int :name \"y\")",
-        "line 1, column 26: expected a symbol of SMT-LIB, found `a b`",
+        "line 3, column 26: expected a name of its own, found `y`, \
+             the name of the constant at line 2, column 27",
+    ),
+    (
+        "(constant x Int :name \"a b\")\n(constant |a b| Int)",
+        "line 2, column 11: expected a name of its own, found `a b`, \
+             the name of the constant at line 1, column 23",
     ),
     (
         "(function z () Int :name \"y\")\n(constant y Int)",
@@ -206,7 +207,13 @@ const CLASHES: [(&str, &str); 13] = [
     (
         "(type S)(type |b:S|)(type T :name \"b:S\")\n(term t (literal \"a:b\" S))\n\
              (term u (literal \"a\" T))",
-        "line 1, column 35: expected a symbol of SMT-LIB, found `b:S`",
+        "line 1, column 35: expected a name of its own, found `b:S`, \
+             the name of the type at line 1, column 15",
+    ),
+    (
+        "(type S)(type |b:S|)\n(term t (literal \"a:b\" S))\n(term u (literal \"a\" |b:S|))",
+        "line 3, column 9: expected a name of its own, found `|a:b:S|`, \
+             the name of the term at line 2, column 9",
     ),
     (
         "(term t (literal \"red\" Int))(term u (builtin \"|red:int|\"))",
@@ -231,18 +238,13 @@ fn clashes() {
 #[test]
 fn every_word_and_operator_clashes() {
     const WORDS: &str = "true false ite = => and or not xor distinct < <= > >= + - * div mod abs";
-    const RESERVED_TOO: &str = "let forall exists";
-    for word in WORDS.split(' ').chain(RESERVED_TOO.split(' ')) {
+    for word in WORDS.split(' ') {
         for name in [word.to_string(), format!("|{word}|")] {
             let constant = error(&format!("(constant x Int :name \"{name}\")"));
             let function = error(&format!("(function x () Int :name \"{name}\")"));
             assert!(constant.is_some() && function.is_some(), "{name}");
             let typ = error(&format!("(type x :name \"{name}\")"));
-            assert_eq!(
-                typ.is_some(),
-                RESERVED_TOO.split(' ').any(|reserved| reserved == word),
-                "{name}"
-            );
+            assert_eq!(typ, None, "{name}");
         }
     }
 }
@@ -281,14 +283,14 @@ fn complaints_of_a_book() {
     m.user_type("a b");
     m.user_type("|-5|");
     m.user_type("as");
-    let barred = m.user_type("|a:b|");
+    m.user_type("|a:b|");
     let [split, other_split] = ["c:d", "d"].map(|name| m.user_type(name));
     m.constant("x", INT);
     m.function("|x|", &[], BOOL);
     m.function("x", &[], BOOL);
     m.function("or", &[], BOOL);
     m.literal("red", good);
-    m.literal("red", barred);
+    m.boolean(true);
     m.literal("b", split);
     m.literal("b:c", other_split);
     m.literal("b", split);
@@ -298,15 +300,10 @@ fn complaints_of_a_book() {
     let expected = [
         "type 3: expected a name of its own, found `|T|`, the name of type 2",
         "type 4: expected a name of its own, found `T`, the name of type 2",
-        "type 5: expected a symbol of SMT-LIB, found `a b`",
-        "type 6: expected a name that does not look like a number, found `|-5|`",
-        "type 7: expected a name that SMT-LIB does not reserve, found `as`",
-        "type 9: expected a symbol of SMT-LIB, found `c:d`",
+        "type 6: expected a name that does not look like a negative number, found `|-5|`",
         "function 0: expected a name of its own, found `|x|`, the name of constant 0",
         "function 1: expected a name of its own, found `x`, the name of constant 0",
         "function 2: expected a name of its own, found `or`, an operator",
-        "term 1: expected a literal without bars and backslashes inside, \
-         found `|red:|a:b||`, of type 8",
         "term 3: expected a name of its own, found `|b:c:d|`, the name of term 2",
         "term 4: expected a name of its own, found `|b:c:d|`, the name of term 3",
         "term 5: expected a name of its own, found `x`, the name of constant 0",

@@ -263,7 +263,7 @@ fn a_bad_plan_leaves_the_old_file() {
     let directory = directory("bad");
     let [plan, out] = ["plan", "out"].map(|name| directory.join(name));
     fs::write(&out, OLD).expect("it can be written");
-    for text in ["(node n root)", "(node n root 7)", "(constant |5| Int)"] {
+    for text in ["(node n root)", "(node n root 7)", "(constant |-5| Int)"] {
         fs::write(&plan, text).expect("it can be written");
         let answer = run(&[
             OsStr::new("book"),

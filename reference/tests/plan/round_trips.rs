@@ -1,6 +1,6 @@
 //! Book to text to book: the same program.
 
-use leskofar_reference::book::{kind, Section, BOOL, INT, NO_TERM};
+use leskofar_reference::book::{kind, Section, BOOL, FIRST_USER_TYPE, INT, NO_TERM};
 use leskofar_reference::book_test::check;
 use leskofar_reference::maker::{sample, small, Maker};
 use leskofar_reference::plan::{read, write, Options};
@@ -66,20 +66,33 @@ fn document_01s_books() {
     assert_eq!(text, expected);
 }
 
-/// Names that are no symbols, or those of others, or words of the form.
+/// Names that are no simple symbols, or those of others, or words of the form.
+const ODD_NAMES: [&str; 28] = [
+    " ", "a b", "a", "a", "\"", "\"\"x", ";", "(", ":k", "5", "-5", "-5a", "-", "true", "let",
+    "and", "%tag", "root", "Int", "Bool", "c0", "f1", "t2", "t2_", "T0", "builtin", "!", "red 40",
+];
+/// Those with bars, which no literal has in its name.
+const BARRED_NAMES: [&str; 8] = [
+    "||", "|a|", "|a b|", "|-5|", "|-5a|", "|true|", "|let|", "|red 40|",
+];
+/// Those that only operators and traces have.
+const UNSENDABLE: [&str; 4] = ["", "|", "|a\\b|", "\\"];
+
 #[test]
 fn odd_names() {
     let mut m = Maker::default();
-    let names = [
-        "", " ", "|", "||", "|a|", "|a b|", "|a\\b|", "a b", "a", "a", "\"", "\"\"x", ";", "(",
-        ":k", "5", "-5", "|-5|", "-", "true", "|true|", "let", "and", "%tag", "root", "Int",
-        "Bool", "c0", "f1", "t2", "t2_", "T0", "builtin", "!", "\\",
-    ];
-    for name in names {
+    for name in BARRED_NAMES.into_iter().chain(ODD_NAMES) {
         let typ = m.user_type(name);
         m.constant(name, typ);
         m.function(name, &[typ, BOOL], typ);
-        let literal = m.literal(name, typ);
+    }
+    let types = BARRED_NAMES.len() as u32 + FIRST_USER_TYPE;
+    for (typ, name) in (types..).zip(ODD_NAMES) {
+        m.literal(name, typ);
+    }
+    m.literal("", INT);
+    for name in UNSENDABLE.into_iter().chain(BARRED_NAMES).chain(ODD_NAMES) {
+        let literal = m.literal("%tag", FIRST_USER_TYPE);
         let applied = m.built_in(name, &[literal]);
         m.traced_context(0, applied, name);
         m.built_in(name, &[]);
@@ -89,7 +102,13 @@ fn odd_names() {
         m.apply(constant, &[]);
     }
     let text = round_trip(&m.book());
-    assert!(text.contains("\n(constant |a b| "), "{text}");
+    // The first of two that stand for one symbol is called by it.
+    assert!(
+        text.contains("\n(constant |a b| |a b| :name \"|a b|\")"),
+        "{text}"
+    );
+    assert!(text.contains(" :name \"a b\")"), "{text}");
+    assert!(text.contains("\n(type |-5|)\n"), "{text}");
     assert!(text.contains(" :name \"\"\"\"\"x\""), "{text}");
 }
 

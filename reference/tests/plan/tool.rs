@@ -166,9 +166,10 @@ fn wrong_usage() {
 /// book is the same.
 #[test]
 fn raw_names_and_sorts() {
-    let text = b"(constant x Int :name \"a b\")\n(term t (<= x))\n(term f false)";
+    let text = b"(constant x Int :name \"-5\")\n(term t (<= x))\n(term f false)";
     let plan = written("raw.plan", text);
-    let name = ": line 1, column 23: expected a symbol of SMT-LIB, found `a b`\n";
+    let name = ": line 1, column 23: expected a name that does not look like a negative number, \
+                found `-5`\n";
     let sort = ": line 2, column 9: expected 2 or more arguments of `<=`, found 1\n";
     let file = plan.display();
     let book = read(text, Options::RAW).expect("a raw plan").maker.book();
@@ -210,14 +211,15 @@ fn check_a_good_book() {
 fn complaints_of_a_book() {
     let mut maker = sample().maker;
     maker.constant("x", 0);
-    maker.user_type("");
+    maker.user_type("-5");
     let seven = maker.integer(7);
     maker.built_in("<=", &[seven]);
     let bad = written("bad_to_check.book", &maker.book());
-    let names = "type 2: expected a symbol of SMT-LIB, found an empty name\n\
+    let names = "type 2: expected a name that does not look like a negative number, found `-5`\n\
                  constant 3: expected a name of its own, found `x`, the name of constant 0\n";
     let sorts = "term 20: expected 2 or more arguments of `<=`, found 1\n";
-    let warning_of_names = "warning: type 2: expected a symbol of SMT-LIB, found an empty name";
+    let warning_of_names =
+        "warning: type 2: expected a name that does not look like a negative number, found `-5`";
     let warning_of_sorts = "warning: term 20: expected 2 or more arguments of `<=`, found 1";
     let file = bad.display();
     for (flags, lines, errors) in [
@@ -264,6 +266,28 @@ fn check_a_refused_book() {
     );
     assert_eq!(string(&answer.stderr), why);
     assert_eq!(answer.stdout, b"");
+}
+
+/// Of a book that is refused for its names these are told, raw or not.
+#[test]
+fn check_a_book_refused_for_its_names() {
+    let mut maker = sample().maker;
+    maker.constant("a|b", 0);
+    maker.user_type("");
+    let bad = written("bad_names_to_check.book", &maker.book());
+    let expected = "expected a name that is not empty and has neither bar nor backslash inside";
+    let lines =
+        format!("type 2: {expected}, found an empty name\nconstant 3: {expected}, found `a|b`\n");
+    for flags in [&[][..], &["--raw-names", "--raw-sorts"]] {
+        let mut call = vec![OsStr::new("check"), bad.as_ref()];
+        call.extend(flags.iter().map(OsStr::new));
+        let answer = run(&call);
+        assert_eq!(string(&answer.stdout), lines);
+        let why = "a name that cannot go to a solver: empty, or with a bar or backslash";
+        let refused = format!("{}: refused 28: {why}\n", bad.display());
+        assert_eq!(string(&answer.stderr), refused);
+        assert_eq!(answer.status.code(), BAD_INPUT);
+    }
 }
 
 /// The book that the tool writes for a text, and what it says besides.

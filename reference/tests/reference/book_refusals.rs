@@ -1,4 +1,5 @@
-//! Refusals 1 to 6 but for 4, and the order among all of them.
+//! Refusals 1 to 6 but for 4, and the order among all of them. 28 has tests of
+//! its own.
 
 use crate::desk::buffer;
 use leskofar_reference::book::{
@@ -8,7 +9,7 @@ use leskofar_reference::book_test;
 use leskofar_reference::book_test::{MOST_DEPTH, SCRATCH_SIZE};
 use leskofar_reference::filled_books::filled_up;
 use leskofar_reference::maker::{sample, Maker};
-use leskofar_reference::refusal::{CONTENTS, COUNT, DEPTH, FIELD, FOREST, SCRATCH_SHORT};
+use leskofar_reference::refusal::{BAD_NAME, CONTENTS, COUNT, DEPTH, FIELD, FOREST, SCRATCH_SHORT};
 
 /// A book with each kind of record and term.
 pub fn full() -> Maker {
@@ -52,8 +53,8 @@ pub fn changed(change: impl FnOnce(&mut Maker)) -> Result<(), u32> {
     tested(&maker.book())
 }
 
-/// A book for each of the refusals 2 to 6: the full one with a fault.
-pub fn faulty() -> [(Vec<u8>, u32); 5] {
+/// A book for each of the refusals 2 to 6 and 28: the full one with a fault.
+pub fn faulty() -> [(Vec<u8>, u32); 6] {
     let with = |fault: &dyn Fn(&mut Maker)| {
         let mut maker = full();
         fault(&mut maker);
@@ -70,7 +71,13 @@ pub fn faulty() -> [(Vec<u8>, u32); 5] {
         (with(&|m| m.letters.push(b'\n')), FIELD),
         (with(&|m| m.contexts[0][1] = m.contexts[1][1]), FOREST),
         (with(&chain(MOST_DEPTH + 1)), DEPTH),
+        (with(&nameless), BAD_NAME),
     ]
+}
+
+/// A type that nothing uses and that cannot be sent.
+fn nameless(m: &mut Maker) {
+    m.user_type("");
 }
 
 fn put(book: &mut [u8], at: usize, number: u32) {

@@ -71,12 +71,13 @@ fn the_tag_of_a_print_is_the_callers() {
     assert_eq!(text, "(%tag 18446744073709551615 |%tags:int|)");
 }
 
+/// Operators and the texts of literals; what is declared has a name.
 #[test]
 fn names_may_be_empty() {
     let mut m = Maker::default();
-    let none = m.user_type("");
-    let c = m.constant("", none);
-    let [a, b, d] = [m.id(c), m.literal("", none), m.literal("", BOOL)];
+    let none = m.user_type("||");
+    let c = m.constant("||", none);
+    let [a, b, d] = [m.id(c), m.literal("", INT), m.literal("", BOOL)];
     let operator = m.built_in("", &[a, b, d]);
     let bare = m.built_in("", &[]);
     let body = m.boolean(true);
@@ -87,15 +88,15 @@ fn names_may_be_empty() {
     let exists = m.quantifier(false, &[c], &[], exists_body);
     assert_eq!(
         printed_with(&m, operator, 0, false, 0),
-        "(() () |:| |:bool|)"
+        "(() || |:int| |:bool|)"
     );
     assert_eq!(
         printed_with(&m, forall, 0, false, 0),
-        "(forall ((() ()) (() ())) (! true :pattern (()) :pattern ()))"
+        "(forall ((|| ||) (|| ||)) (! true :pattern (()) :pattern ()))"
     );
     assert_eq!(
         printed_with(&m, exists, 0, false, 0),
-        "(exists ((() ())) false)"
+        "(exists ((|| ||)) false)"
     );
 }
 

@@ -86,7 +86,8 @@ fn each_kind_of_term() {
         (m.literal("red", shade), "red:Shade"),
         (m.literal("on", BOOL), "on:bool"),
         (m.literal("%tag", INT), "%tag:int"),
-        (m.literal("a|b", INT), "a|b:int"),
+        (m.literal("a b", INT), "a b:int"),
+        (m.built_in("a|b", &[]), "a|b()"),
         (m.id(s), "s"),
         (m.built_in("and", &[]), "and()"),
         (m.apply(f, &[]), "f()"),
@@ -144,23 +145,31 @@ fn quantifiers_without_variables_and_empty_patterns() {
 #[test]
 fn empty_names_are_nothing() {
     let mut m = Maker::default();
-    let typ = m.user_type("");
-    let c = m.constant("", typ);
-    let f = m.function("", &[], BOOL);
-    let args = [m.id(c), m.literal("", typ), m.literal("", BOOL)];
+    let args = [m.literal("", INT), m.literal("", BOOL)];
     let operator = m.built_in("", &args);
-    assert_eq!(goal_text(&m, operator), "(, :, :bool)");
-    let applied = m.apply(f, &[operator]);
-    assert_eq!(goal_text(&m, applied), "((, :, :bool))");
+    assert_eq!(goal_text(&m, operator), "(:int, :bool)");
+    let premise = m.built_in("", &[]);
+    let node = m.context(0, premise);
+    let expected = [TITLE, "  ()\n", TURNSTILE, "  ()\n"].concat();
+    assert_eq!(listed(&m, node, premise), expected);
+}
+
+/// Names with bars keep them, and names that the solver needs them for get none.
+#[test]
+fn names_stay_raw() {
+    let mut m = Maker::default();
+    let typ = m.user_type("|red 40|");
+    let c = m.constant("a b", typ);
+    let f = m.function("||", &[], BOOL);
+    let args = [m.id(c), m.literal("%tag", typ)];
+    let applied = m.apply(f, &args);
+    assert_eq!(goal_text(&m, applied), "||(a b, %tag:|red 40|)");
     let [rhs, body] = [m.id(c), m.id(c)];
     let bound = m.let_expr(c, rhs, body);
-    assert_eq!(goal_text(&m, bound), "(val :  :=  )");
+    assert_eq!(goal_text(&m, bound), "(val a b: |red 40| := a b a b)");
     let quantified = m.quantifier(true, &[c, c], &[], bound);
-    assert_eq!(goal_text(&m, quantified), "(forall : , :  (val :  :=  ))");
-    let premise = m.id(c);
-    let node = m.context(0, premise);
-    let expected = [TITLE, "  \n", TURNSTILE, "  \n"].concat();
-    assert_eq!(listed(&m, node, premise), expected);
+    let expected = "(forall a b: |red 40|, a b: |red 40| (val a b: |red 40| := a b a b))";
+    assert_eq!(goal_text(&m, quantified), expected);
 }
 
 #[test]

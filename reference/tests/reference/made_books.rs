@@ -6,10 +6,11 @@ use leskofar_reference::book_test;
 use leskofar_reference::book_test::{MOST_DEPTH, SCRATCH_SIZE};
 use leskofar_reference::damage::damaged;
 use leskofar_reference::maker::Maker;
-use leskofar_reference::program::RExpr;
+use leskofar_reference::name_faults::{all_ways, ways_of};
+use leskofar_reference::program::{RExpr, ROperator};
 use leskofar_reference::random::Random;
-use leskofar_reference::random_books::{random_book, Counts};
-use leskofar_reference::refusal::{CONTENTS, DEPTH, REPLY_UNSAT};
+use leskofar_reference::random_books::{any_random_book, random_book, Counts};
+use leskofar_reference::refusal::{BAD_NAME, CONTENTS, DEPTH, REPLY_UNSAT};
 use leskofar_reference::{listing, nodes_test, print, trace};
 use std::collections::{BTreeMap, BTreeSet};
 
@@ -20,13 +21,17 @@ const BOOKS_AT_LIMITS: usize = 24;
 const DAMAGES_OF_EACH: usize = 8;
 
 fn books() -> Vec<Maker> {
+    made_by(random_book)
+}
+
+fn made_by(make: fn(&mut Random, Counts) -> Maker) -> Vec<Maker> {
     let mut random = Random::new(SEED);
-    let at_limits = (0..BOOKS_AT_LIMITS).map(|_| random_book(&mut random, Counts::limits()));
+    let at_limits = (0..BOOKS_AT_LIMITS).map(|_| make(&mut random, Counts::limits()));
     let mut books: Vec<Maker> = at_limits.collect();
     for (size, many) in SIZES {
         for _ in 0..many {
             let counts = Counts::random(&mut random, size);
-            books.push(random_book(&mut random, counts));
+            books.push(make(&mut random, counts));
         }
     }
     books
@@ -44,6 +49,31 @@ fn random_books_pass() {
     for maker in books() {
         assert_eq!(tested(&maker.book()), Ok(()));
     }
+}
+
+/// Most of them pass; the others are 28 by their names, and each way to it is
+/// met.
+#[test]
+fn any_random_books_pass_or_are_28() {
+    let books = made_by(any_random_book);
+    let mut met = BTreeSet::new();
+    let mut refused = 0;
+    for maker in &books {
+        let ways = ways_of(maker);
+        let expected = if ways.is_empty() {
+            Ok(())
+        } else {
+            Err(BAD_NAME)
+        };
+        assert_eq!(tested(&maker.book()), expected, "{ways:?}");
+        refused += usize::from(!ways.is_empty());
+        met.extend(ways);
+    }
+    assert_eq!(met, all_ways());
+    assert!(
+        refused < books.len() / 4 && refused > books.len() / 20,
+        "{refused}"
+    );
 }
 
 #[test]
@@ -91,8 +121,17 @@ fn random_books_have_everything() {
         let mut literals = BTreeMap::new();
         for term in &program.terms {
             match term {
-                RExpr::CustomLiteral { s, .. } if *s == b"%tag" => {
+                RExpr::CustomLiteral { s, typ } if *s == b"%tag" => {
                     seen.insert("%tag");
+                    if typ.text(&program).contains(&b'|') {
+                        seen.insert("%tag of a type with bars");
+                    }
+                }
+                RExpr::FuncAppl {
+                    op: ROperator::BuiltInOperator(b""),
+                    ..
+                } => {
+                    seen.insert("operator without a name");
                 }
                 RExpr::CustomLiteral { s, typ } => {
                     let text = [s, &b":"[..], typ.text(&program)].concat();
@@ -113,9 +152,12 @@ fn random_books_have_everything() {
             }
         }
         for (function, record) in program.functions.iter().enumerate() {
-            if record.name.is_empty() {
-                seen.insert("empty name");
-            }
+            seen.insert(match record.name {
+                [b'|', .., b'|'] => "a function between bars",
+                b"let" => "a reserved function",
+                name if name.contains(&b' ') => "a function that gets bars",
+                _ => "another function",
+            });
             for axiom in &record.explained_by {
                 if program.axioms[*axiom].explains.contains(&function) {
                     seen.insert("explain each other");
@@ -129,10 +171,10 @@ fn random_books_have_everything() {
             seen.insert("deepest node");
         }
     }
-    assert_eq!(seen.len(), 17, "{seen:?}");
+    assert_eq!(seen.len(), 22, "{seen:?}");
 }
 
-/// Each of 2 to 6 is met, and every call gives the number of the book test.
+/// Each of 2 to 6 and 28 is met, and every call gives the number of the book test.
 #[test]
 fn damaged_books_are_refused_alike_by_every_call() {
     let mut random = Random::new(SEED);
@@ -161,7 +203,7 @@ fn damaged_books_are_refused_alike_by_every_call() {
             assert_eq!(desk.model(b"unsat", None), Err(number));
         }
     }
-    for number in CONTENTS..=DEPTH {
+    for number in (CONTENTS..=DEPTH).chain([BAD_NAME]) {
         assert!(met.get(&number).is_some_and(|times| *times > 50), "{met:?}");
     }
     assert!(!met.contains_key(&REPLY_UNSAT));

@@ -100,17 +100,17 @@ fn tag_is_not_declared_and_counts_everything() {
 }
 
 #[test]
-fn names_are_raw_in_declarations() {
+fn names_are_symbols_in_declarations() {
     let mut m = Maker::default();
-    let t = m.user_type("");
-    let f = m.function("", &[t, INT], t);
+    let t = m.user_type("a b");
+    let f = m.function("||", &[t, INT], t);
     let goal = m.apply(f, &[]);
     assert_eq!(
         asked(&m, goal),
         [
-            "(declare-sort  0)",
-            "(declare-fun  (() Int) ())",
-            "(assert (not ()))"
+            "(declare-sort |a b| 0)",
+            "(declare-fun || (|a b| Int) |a b|)",
+            "(assert (not ||))"
         ]
     );
 }

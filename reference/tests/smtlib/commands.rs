@@ -274,3 +274,32 @@ fn a_refused_command_changes_nothing() {
     assert!(reader.read(b"(declare-fun x () Int)(push)").is_err());
     assert_eq!(reader.read(asserted.as_bytes()), Ok(1));
 }
+
+/// Without resolving names, only what is no command is refused.
+#[test]
+fn the_grammar_alone() {
+    let mut reader = Reader::default();
+    reader.read_grammar_alone();
+    let names = "(declare-sort |red 40| 0)(declare-sort Bool 0)(declare-fun @a () T)\
+                 (declare-fun @a (|red 40|) ||)(push 1)(declare-fun and () Int)\
+                 (assert (@a and 5 (none @a)))(pop 1)";
+    assert_eq!(reader.read(names.as_bytes()), Ok(8));
+    let declared: Vec<Vec<u8>> = ["@a", "@a", "and"].map(Into::into).to_vec();
+    assert_eq!(reader.functions, declared);
+    let declared: Vec<Vec<u8>> = ["red 40", "Bool"].map(Into::into).to_vec();
+    assert_eq!(reader.sorts, declared);
+    for bad in [
+        "(declare-sort red 40 0)",
+        "(declare-sort let 0)",
+        "(declare-fun 5 () Int)",
+        "(declare-fun |a () Int)",
+        "(declare-fun |a\\| () Int)",
+        "(declare-fun  () Int)",
+        "(assert (let 1))",
+        "(assert ())",
+        "(pop 1)",
+    ] {
+        assert!(reader.read(bad.as_bytes()).is_err(), "{bad}");
+    }
+    assert_eq!(reader.functions.len(), 3);
+}

@@ -25,6 +25,15 @@ const NEGATIVE: &str = "(type T) (constant t T)
     (goal bound far (let ((y -3)) (< (f x y) -4)))
     (goal ruled far (forall ((y Int)) (! (< (f -5 y) x) :pattern ((f -5 y) y))))";
 
+/// A plan with names that need bars, that have them and that need none.
+const YARNS: &str = "(type |red 40|) (type T :name \"|as is|\") (type Shade)
+    (constant |dark thread| |red 40|) (constant c Int :name \"let\") (constant |40| T)
+    (function |dye of| (|red 40| T Shade) Int) (function f () Shade :name \"||\")
+    (node start root (< (|dye of| (literal \"dark red\" |red 40|) |40| f) c))
+    (goal bound start (forall ((|dark thread| |red 40|) (c Int))
+        (! (let ((c (|dye of| |dark thread| |40| f))) (< c 1))
+           :pattern ((|dye of| |dark thread| |40| f)))))";
+
 /// A book and questions on it, each a node and a goal.
 struct Questions {
     book: Vec<u8>,
@@ -121,9 +130,24 @@ fn read_all(lines: &[String]) -> Option<usize> {
     Reader::default().read(lines.join("\n").as_bytes()).ok()
 }
 
+/// Each declared symbol is a name of the plan without its bars.
+#[test]
+fn declared_symbols_are_the_names() {
+    let mut reader = Reader::default();
+    Questions::of_plan(YARNS.as_bytes()).sent(|text, _| {
+        reader.read(text).expect("a text that is read");
+    });
+    let names = |names: &[&str]| -> Vec<Vec<u8>> { names.iter().map(|n| (*n).into()).collect() };
+    assert_eq!(reader.sorts, names(&["red 40", "as is", "Shade"]));
+    let functions = ["dye of", "dark red:red 40", "40", "", "let"];
+    assert_eq!(reader.functions, names(&functions));
+}
+
 #[test]
 fn plans_and_chains_are_read() {
-    Questions::of_plan(NEGATIVE.as_bytes()).assert_read();
+    for plan in [NEGATIVE, YARNS] {
+        Questions::of_plan(plan.as_bytes()).assert_read();
+    }
     let samples = fs::read_dir(SAMPLES).expect("the samples");
     for sample in samples {
         let path = sample.expect("a sample").path();

@@ -75,10 +75,10 @@ impl Writer<'_> {
     fn add_types(&mut self) {
         for number in 0..self.random.up_to(MOST_TYPES) {
             let has_bars = self.random.one_in(AT_TIMES);
-            let name = if has_bars {
-                format!("|kind {number}|")
-            } else {
-                format!("Kind_{number}")
+            let name = match self.random.one_in(AT_TIMES) {
+                _ if has_bars => format!("|kind {number}|"),
+                true => format!("kind {number}"),
+                false => format!("Kind_{number}"),
             };
             let typ = self.maker.user_type(&name);
             self.types.push(typ);
