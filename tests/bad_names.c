@@ -90,8 +90,8 @@ static void as_type_of_used_literal(const char *name) {
 typedef void given_to(const char *);
 
 /* Names that cannot go; that have their bars, and can go but into a literal; and that can go anywhere. */
-static const char *const BAD[] = {"",       "|",  "|||",  "|a",   "a|",    "a|b",    "|a|b|",
-                                  "|a||b|", "\\", "a\\", "\\a", "|\\|", "|a\\|", "| \\ |", "|\\"};
+static const char *const BAD[] = {"",   "|",   "|||", "|a",   "a|",    "a|b",    "|a|b|", "|a||b|",
+                                  "\\", "a\\", "\\a", "|\\|", "|a\\|", "| \\ |", "|\\"};
 static const char *const BARRED[] = {"||", "| |", "|a b|", "|let|"};
 static const char *const PLAIN[] = {"red 40", "let", "!", "40", " ", "(", ";", "\"", "a:b", "x"};
 

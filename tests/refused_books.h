@@ -49,7 +49,7 @@ static const struct refused_book {
     uint32_t refusal;
     void (*lend)(struct lent *, struct records *);
 } REFUSED_BOOKS[] = {
-    {LESKOFAR_SHORT_SCRATCH, short_scratch},  {LESKOFAR_BAD_CONTENTS, bad_contents}, {LESKOFAR_COUNT_OVER_LIMIT, too_many},
+    {LESKOFAR_SHORT_SCRATCH, short_scratch},   {LESKOFAR_BAD_CONTENTS, bad_contents}, {LESKOFAR_COUNT_OVER_LIMIT, too_many},
     {LESKOFAR_FIELD_OUT_OF_RANGE, bad_letter}, {LESKOFAR_NO_FOREST, no_forest},       {LESKOFAR_TOO_DEEP, too_deep},
     {LESKOFAR_BAD_NAME, empty_name},
 };

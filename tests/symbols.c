@@ -119,12 +119,11 @@ static void raw_tests(void) {
                                "  =(|kept|, |kept|)\n"
                                "  |-\n"
                                "  let\n"));
-    expect("a listing of a quantifier",
-           writes(listing_call, ROOT, RULE,
-                  "----- Proof obligation:\n"
-                  "  |-\n"
-                  "  (forall shade no 1: red 40, let: bool pattern how far(shade no 1, 7)"
-                  " (val box 1: int := 4 =(how far(shade no 1, box 1), box 1)))\n"));
+    expect("a listing of a quantifier", writes(listing_call, ROOT, RULE,
+                                               "----- Proof obligation:\n"
+                                               "  |-\n"
+                                               "  (forall shade no 1: red 40, let: bool pattern how far(shade no 1, 7)"
+                                               " (val box 1: int := 4 =(how far(shade no 1, box 1), box 1)))\n"));
 }
 
 /* What a fresh session sends is accepted by an audit, and the same with a name of ours without its bars is not. */

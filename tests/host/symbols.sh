@@ -173,3 +173,11 @@ for options in '--solver z3' '--solver z3 --raw-names'; do
 done
 run_on "$work/word.lines" work "$work/appended.book" --solver cvc5
 expect_results 'a word in a book that grows, with cvc5' 'Proved Proved'
+# And in one that has such a word from the begin.
+letters='|let|'
+word_book constant "$letters"
+echo "ask $pairs" >"$work/word.lines"
+run_on "$work/word.lines" work "$work/word.book" --raw-names
+expect 'a word in a book that is worked on' 2 ": refused: constant 0 is called \"|let|\", $misread"
+run_on "$work/word.lines" work "$work/word.book" --solver cvc5
+expect 'a word in a book that is worked on, with cvc5' 0 ': Proved'
