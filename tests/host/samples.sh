@@ -60,6 +60,7 @@ for solver in z3 cvc5; do
     sample open_step 1 'Proved Unproved Proved'
     sample patterns 1 'Proved Proved Unproved'
     sample shades 1 'Proved Unproved Proved Unproved'
+    sample yarns 1 'Proved Unproved'
     sample zero_point 1 'Proved Proved Unproved Proved'
 
     book_of siblings
@@ -170,7 +171,7 @@ expect_results 'an axiom without a term' 'refused Proved'
 expect_listings 'an axiom without a term' tests/host/listings/lost.txt
 
 # What is said of nodes.
-for sample in limit_proved limit_not_proved siblings distance_axiom open_step patterns shades zero_point; do
+for sample in limit_proved limit_not_proved siblings distance_axiom open_step patterns shades yarns zero_point; do
     book_of "$sample"
     run nodes "$work/$sample.book"
     expect_said "nodes of $sample" 0 "$(grep -c '^(node ' "samples/$sample.plan") nodes can be reached"

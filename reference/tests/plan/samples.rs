@@ -9,7 +9,7 @@ use std::fs;
 use std::path::PathBuf;
 
 /// Each sample's goals with what its comments say: proved or not.
-const GOALS: [(&str, &[(&str, bool)]); 8] = [
+const GOALS: [(&str, &[(&str, bool)]); 9] = [
     (
         "distance_axiom",
         &[("travels_at_most_8", true), ("travels_at_most_7", false)],
@@ -54,6 +54,13 @@ const GOALS: [(&str, &[(&str, bool)]); 8] = [
             ("near_travels_at_most_3", true),
             ("far_travels_at_most_3", false),
             ("near_again_travels_at_most_3", true),
+        ],
+    ),
+    (
+        "yarns",
+        &[
+            ("travels_at_most_6", true),
+            ("travels_at_most_6_known_too_early", false),
         ],
     ),
     (
