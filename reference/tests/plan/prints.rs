@@ -11,6 +11,7 @@ use leskofar_reference::print;
 use leskofar_reference::program::{Program, RExpr, ROperator, SType};
 use leskofar_reference::random::Random;
 use leskofar_reference::random_books::{random_book, Counts};
+use leskofar_reference::symbols::symbol_text;
 
 const SEED: u64 = 20_260_108;
 const BOOKS: usize = 400;
@@ -139,9 +140,10 @@ fn have_same_children(a: &Program, term_a: usize, b: &Program, term_b: usize) ->
             .all(|(child_a, child)| is_same(a, *child_a, b, child))
 }
 
-/// The items of a program's types, constants and functions.
+/// The items of a program's types, constants and functions, with bars around
+/// the names that need them.
 fn declarations(program: &Program) -> String {
-    let text = |name: &[u8]| String::from_utf8_lossy(name).into_owned();
+    let text = |name: &[u8]| String::from_utf8_lossy(&symbol_text(name)).into_owned();
     let type_name = |typ: SType| match typ {
         SType::SBool => "Bool".into(),
         SType::SInt => "Int".into(),
