@@ -5,13 +5,7 @@ use leskofar_reference::book::{kind, Section, BOOL, FIRST_USER_TYPE, INT};
 use leskofar_reference::book_test::{FIRST_LETTER, LAST_LETTER};
 use leskofar_reference::maker::Maker;
 use leskofar_reference::name_faults::may_be_in_literal;
-
-/// The reserved words of SMT-LIB 2.6, its commands behind the first thirteen.
-const RESERVED: &str = "! _ as BINARY DECIMAL exists HEXADECIMAL forall let match NUMERAL par \
-    STRING assert check-sat check-sat-assuming declare-const declare-datatype declare-datatypes \
-    declare-fun declare-sort define-fun define-fun-rec define-funs-rec define-sort echo exit \
-    get-assertions get-assignment get-info get-model get-option get-proof get-unsat-assumptions \
-    get-unsat-core get-value pop push reset reset-assertions set-info set-logic set-option";
+use leskofar_reference::smtlib::words::RESERVED;
 
 /// Names with bars and backslashes in every place.
 pub const BARRED: [&str; 24] = [
@@ -44,7 +38,7 @@ pub fn each_letter() -> Vec<String> {
 /// The words, each with a letter more, with one less, and in capitals.
 pub fn reserved_and_near() -> Vec<String> {
     let mut names = Vec::new();
-    for word in RESERVED.split(' ') {
+    for word in RESERVED {
         let shorter = &word[..word.len() - 1];
         names.extend([word, shorter, &word[1..]].map(String::from));
         names.extend([format!("{word}s"), format!("a{word}"), format!("|{word}|")]);

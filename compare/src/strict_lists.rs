@@ -67,6 +67,31 @@ pub fn checked_as_sane(m: &Maker) -> Result<(), String> {
     }
 }
 
+fn checked_as_clashing(m: &Maker) -> Result<(), String> {
+    match checked_as_sane(m) {
+        Ok(()) => Err(format!("no names clash, of {m:?}")),
+        Err(_) => Ok(()),
+    }
+}
+
+/// Random lists of calls on books of a sort, each looked at first.
+fn random_lists(
+    lists: usize,
+    book: fn(&mut Random) -> Maker,
+    checked: fn(&Maker) -> Result<(), String>,
+) -> Result<Seen, String> {
+    let mut seen = Seen::default();
+    let mut measure = Measure::new();
+    let mut random = Random::new(SEED);
+    let mut other = fresh_image().to_vec();
+    for _ in 0..lists {
+        let m = book(&mut random);
+        checked(&m)?;
+        other = random_list(&mut random, &m, &other, &mut measure, &mut seen)?;
+    }
+    Ok(seen)
+}
+
 pub fn run(tally: &mut Tally) {
     let chains = tally.share(CHAINS);
     tally.group("strict, the sample plans and chains", || {
@@ -103,15 +128,7 @@ pub fn run(tally: &mut Tally) {
     });
     let lists = tally.share(LISTS);
     tally.group("strict, random books with sane names", || {
-        let mut seen = Seen::default();
-        let mut measure = Measure::new();
-        let mut random = Random::new(SEED);
-        let mut other = fresh_image().to_vec();
-        for _ in 0..lists {
-            let m = sane_book(&mut random);
-            checked_as_sane(&m)?;
-            other = random_list(&mut random, &m, &other, &mut measure, &mut seen)?;
-        }
+        let seen = random_lists(lists, sane_book, checked_as_sane)?;
         let shapes: Vec<&str> = SHAPES
             .into_iter()
             .filter(|shape| !NEVER.contains(shape))
@@ -125,17 +142,7 @@ pub fn run(tally: &mut Tally) {
     tally.group(
         "strict, random books whose names clash, by the grammar",
         || {
-            let mut seen = Seen::default();
-            let mut measure = Measure::new();
-            let mut random = Random::new(SEED);
-            let mut other = fresh_image().to_vec();
-            for _ in 0..lists {
-                let m = clashing_book(&mut random);
-                if checked_as_sane(&m).is_ok() {
-                    return Err(format!("no names clash, of {m:?}"));
-                }
-                other = random_list(&mut random, &m, &other, &mut measure, &mut seen)?;
-            }
+            let seen = random_lists(lists, clashing_book, checked_as_clashing)?;
             let read = seen.read_strictly()?;
             Ok(format!("{lists} lists, {read}"))
         },

@@ -2,7 +2,7 @@
 
 /// The reserved words, the names of the commands among them. Between bars they
 /// are symbols, but z3 takes some for its own even there.
-const RESERVED: [&str; 43] = [
+pub const RESERVED: [&str; 43] = [
     "!",
     "_",
     "as",

@@ -4,11 +4,11 @@
 use crate::desk::{buffer, Desk};
 use crate::examples::printed_with;
 use crate::listing::listed;
-use crate::symbols::RESERVED;
 use leskofar_reference::book::{kind, Section, BOOL, INT};
 use leskofar_reference::book_test::SCRATCH_SIZE;
 use leskofar_reference::maker::Maker;
 use leskofar_reference::refusal::TOO_LONG;
+use leskofar_reference::smtlib::words::RESERVED;
 use leskofar_reference::{print, trace};
 
 /// A book in which every kind of name stands in every place, its node and a

@@ -1,53 +1,9 @@
 //! What a name prints as, and which names can go to a solver: tables by hand.
+//! The reserved words are those of the strict reader, which shares no list with
+//! what prints.
 
+use leskofar_reference::smtlib::words::RESERVED;
 use leskofar_reference::symbols::{bare, is_name, is_quoted, is_simple, symbol_text};
-
-/// The standard's list of reserved words and its list of commands, one by one.
-pub const RESERVED: [&str; 43] = [
-    "!",
-    "_",
-    "as",
-    "BINARY",
-    "DECIMAL",
-    "exists",
-    "HEXADECIMAL",
-    "forall",
-    "let",
-    "match",
-    "NUMERAL",
-    "par",
-    "STRING",
-    "assert",
-    "check-sat",
-    "check-sat-assuming",
-    "declare-const",
-    "declare-datatype",
-    "declare-datatypes",
-    "declare-fun",
-    "declare-sort",
-    "define-fun",
-    "define-fun-rec",
-    "define-funs-rec",
-    "define-sort",
-    "echo",
-    "exit",
-    "get-assertions",
-    "get-assignment",
-    "get-info",
-    "get-model",
-    "get-option",
-    "get-proof",
-    "get-unsat-assumptions",
-    "get-unsat-core",
-    "get-value",
-    "pop",
-    "push",
-    "reset",
-    "reset-assertions",
-    "set-info",
-    "set-logic",
-    "set-option",
-];
 
 /// Of the printable letters, those that are a simple symbol alone, those that
 /// need bars, and the two that no symbol has.
