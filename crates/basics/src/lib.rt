@@ -1,3 +1,4 @@
+#![tactic(auto)]
 // Basics.dfy: text that is written into a buffer, and decimal numbers; and texts that are compared.
 mod bit;
 mod decimal;

@@ -1,3 +1,4 @@
+#![tactic(auto)]
 // The book: its format, its readers, and the refusals that every call shares.
 ghost use Rattle.std.specs.Prelude.{◌≡◌, ◌+◌, ◌*◌, ◌<◌, ◌≤◌, length};
 ghost use Rattle.book.specs.Book.{letters, names, offset, size, field, letter, name_text, word};

@@ -1,3 +1,4 @@
+#![tactic(auto)]
 // Refusals 2 and 3: the contents are as laid out, and no count is over its limit.
 ghost use Rattle.std.specs.Prelude.{◌≡◌, ◌<◌, ◌≤◌, length};
 ghost use Rattle.book.specs.Book.{sections, contents_size};

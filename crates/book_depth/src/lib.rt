@@ -1,3 +1,4 @@
+#![tactic(auto)]
 // Refusal 6: no node is deeper than the limit.
 ghost use Rattle.std.specs.Prelude.{◌≡◌, ◌+◌, replicate};
 ghost use Rattle.book.specs.Book.{contexts};

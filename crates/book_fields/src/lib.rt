@@ -1,3 +1,4 @@
+#![tactic(auto)]
 // Refusal 4, for every section but terms: each record's test. The loops over the sections are in book_records.
 ghost use Rattle.std.specs.Prelude.{◌≡◌, ◌+◌, ◌<◌, ◌≤◌, ltb};
 ghost use Rattle.basics.specs.Lists.{all_below};

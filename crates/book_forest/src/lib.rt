@@ -1,3 +1,4 @@
+#![tactic(auto)]
 // Refusal 5: a child is smaller than its parent, and no term is referred to twice in the whole book.
 ghost use Rattle.std.specs.Prelude.{◌≡◌, false, [], ◌∷◌, ◌+◌, ◌<◌, ◌≤◌, length, replicate};
 ghost use Rattle.basics.specs.Lists.{join_below};

@@ -1,3 +1,4 @@
+#![tactic(auto)]
 // A book by the bytes of its sections: its table of contents, and the bodies of its sections.
 ghost use Rattle.std.specs.Prelude.{◌≡◌, ◌++◌, ◌<◌};
 ghost use Rattle.basics.specs.Bytes.{bytes4};

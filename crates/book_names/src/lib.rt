@@ -1,3 +1,4 @@
+#![tactic(auto)]
 // Refusal 28: a name that cannot go to a solver.
 ghost use Rattle.std.specs.Prelude.{◌≡◌, ◌+◌, ◌<◌};
 ghost use Rattle.basics.specs.Lists.{all_below};

@@ -1,3 +1,4 @@
+#![tactic(auto)]
 // Refusal 4, for every section but terms: each section's records pass their test.
 ghost use Rattle.std.specs.Prelude.{◌≡◌};
 ghost use Rattle.basics.specs.Lists.{all_below};

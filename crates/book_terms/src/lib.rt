@@ -1,3 +1,4 @@
+#![tactic(auto)]
 // Refusal 4, for terms: a known kind, each field that the kind uses in range, the others 0.
 ghost use Rattle.std.specs.Prelude.{◌≡◌, ◌+◌, ◌<◌, ◌≤◌};
 ghost use Rattle.book.specs.Book.{terms, size};

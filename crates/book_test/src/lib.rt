@@ -1,3 +1,4 @@
+#![tactic(auto)]
 // The test of a book: refusals 1 to 6 and 28, each but 1 decided for the whole book before the next.
 ghost use Rattle.std.specs.Prelude.{◌≡◌};
 ghost use Rattle.book_test.specs.BookTest.{tested_value, book_test_call};

@@ -1,3 +1,4 @@
+#![tactic(auto)]
 // A list of numbers that is handed over as bytes: how many they are, and each of them.
 ghost use Rattle.std.specs.Prelude.{◌≡◌, ◌<◌, length, get_or};
 ghost use Rattle.number_lists.specs.Numbers.{numbers};

@@ -1,3 +1,4 @@
+#![tactic(auto)]
 // The number of each refusal in documents 01 and 02, as code.
 ghost use Rattle.std.specs.Prelude.{◌≡◌};
 ghost use Rattle.book.specs.Refusal.{number};

@@ -1,3 +1,4 @@
+#![tactic(auto)]
 // Names as symbols of SMT-LIB 2.6: simple, or between bars.
 mod letters;
 mod names;

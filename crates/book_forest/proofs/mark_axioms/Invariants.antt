@@ -1,0 +1,12 @@
+use Rattle.book_forest.specs.Forest.{axiom_references}
+use Rattle.book_forest.specs.Marks.{Marked}
+use Rattle.basics.specs.Lists.{join_below}
+use mathlib.Core.Bool.{true}
+use Prim.Native.Nat.{◌≤◌, ◌-◌}
+use Rattle.book_forest.proofs.mark_axioms.Given as goal
+
+abbrev pub invariant-loop-i : goal.invariant-loop-i
+invariant-loop-i l = (l.i ≤ l.n) × Marked l.initial.scratch (join_below l.i (axiom_references l.book)) true l.scratch
+
+abbrev pub decreases-loop-i : goal.decreases-loop-i
+decreases-loop-i l = l.n - l.i

@@ -1,0 +1,7 @@
+use Rattle.book_forest.proofs.Marking.{after}
+use Rattle.book_forest.specs.Forest.{kind_references}
+use Rattle.book_forest.proofs.mark_if.Goals as goal
+
+pub returns : goal.returns
+unfolding kind_references
+returns c = rw (← c.field.ensures.is, ← c.field-2.ensures.is, ← c.field-3.ensures.is) (after _ _ (after _ _ c.mark.ensures c.mark-2.ensures) c.mark-3.ensures)

@@ -1,0 +1,12 @@
+use Rattle.book_forest.specs.Forest.{term_references}
+use Rattle.book_forest.specs.Marks.{Marked}
+use Rattle.basics.specs.Lists.{join_below}
+use mathlib.Core.Bool.{true}
+use Prim.Native.Nat.{◌≤◌, ◌-◌}
+use Rattle.book_forest.proofs.mark_terms.Given as goal
+
+abbrev pub invariant-loop-t : goal.invariant-loop-t
+invariant-loop-t l = (l.t ≤ l.n) × Marked l.initial.scratch (join_below l.t (term_references l.book)) true l.scratch
+
+abbrev pub decreases-loop-t : goal.decreases-loop-t
+decreases-loop-t l = l.n - l.t

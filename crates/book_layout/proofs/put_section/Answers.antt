@@ -1,0 +1,5 @@
+use Rattle.basics.proofs.Places.{at-then, at-as}
+use Rattle.book_layout.proofs.put_section.Goals as goal
+
+pub returns : goal.returns
+returns c = at-then c.well_formed.1.1.1.1.0.0 (at-as c.body.ensures c.put_at-next.ensures) c.put_at.ensures

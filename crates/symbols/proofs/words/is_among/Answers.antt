@@ -1,0 +1,16 @@
+use mathlib.Core.Path.{sym, ◌∙◌}
+use Prim.Native.Nat.{◌-◌}
+use Rattle.symbols.proofs.Walking.{left-first, left-found, left-more, left-none}
+use Rattle.symbols.proofs.words.is_among.Goals as goal
+
+pub loop-at-init : goal.loop-at-init
+loop-at-init c = left-first _ _
+
+pub returns-then-same : goal.returns-then-same
+returns-then-same c = left-found _ _ _ c.loop-at.invariant c.requires c.loop-at-test.true (sym c.same.ensures ∙ c.if-same.true)
+
+pub loop-at-preserved : goal.loop-at-preserved
+loop-at-preserved c = left-more _ _ _ c.loop-at.invariant c.requires c.loop-at-test.true (sym c.same.ensures ∙ c.if-same.false)
+
+pub returns : goal.returns
+returns c = left-none _ _ _ c.loop-at.invariant c.loop-at-test.false
