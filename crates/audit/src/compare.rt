@@ -14,7 +14,7 @@ use own_levels::is_question;
 use question_lists::{goal_of, node_of};
 
 // Behind a line: so many check-sats agree; or the line is one that differs.
-#[derive(Drop)]
+#[derive(Clone, Copy)]
 pub enum Step {
     On(usize),
     Stop,

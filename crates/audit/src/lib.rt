@@ -1,3 +1,4 @@
+#![tactic(auto)]
 // Whether a script of another writer leaves live, at each check-sat, the commands that the book gives for its question.
 ghost use Rattle.std.specs.Prelude.{◌≡◌};
 ghost use Rattle.book.specs.Refusal.{number};
@@ -20,7 +21,7 @@ mod compare;
 mod tags;
 
 // The answer: accepted; the first check-sat that differs, counted from 1; or why not.
-#[derive(Drop)]
+#[derive(Clone, Copy)]
 pub enum Audited {
     Agrees,
     Differs(usize),

@@ -9,7 +9,7 @@ use format::{LETTERS, NAME_LENGTH, NAME_START, NAMES, SIZES};
 pub mod format;
 
 // Why a call is refused. The number of each is in specs/Refusal.antt.
-#[derive(Drop)]
+#[derive(Clone, Copy)]
 pub enum Refusal {
     ShortScratch,
     BadContents,

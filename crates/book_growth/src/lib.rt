@@ -1,3 +1,4 @@
+#![tactic(auto)]
 // A book that grows: behind each section's records stand new ones. New letters and new list entries come in two parts.
 ghost use Rattle.std.specs.Prelude.{◌≡◌, ◌++◌, true, ◌+◌, ◌/◌, ◌<◌, ◌≤◌};
 ghost use Rattle.basics.specs.Write.{WroteAt};

@@ -13,7 +13,7 @@ use book_records::fields_in_range;
 use book_terms::terms_in_range;
 
 // The answer of the book test.
-#[derive(Drop)]
+#[derive(Clone, Copy)]
 pub enum Tested {
     Good,
     Refused(Refusal),

@@ -1,3 +1,4 @@
+#![tactic(auto)]
 // RSolver.dfy: Extend, ExtendWithEquality, Record and RecordTracePoint, on books that are written here; and below them the calls that append
 // a name, a constant, a term or a node. The book received is only read.
 mod appending;
@@ -14,7 +15,7 @@ pub use records::{append_constant, append_name, append_node};
 pub use terms::{TermFields, append_term};
 
 // The answer: the new record's number and the new book's length.
-#[derive(Drop)]
+#[derive(Clone, Copy)]
 pub enum Appended {
     Record(u32, usize),
     Refused(Refusal),

@@ -13,7 +13,7 @@ use book_test::{Tested, book_test};
 use new_records::{ROW7, range_start, row7};
 
 // The fields of a new term, as its record has them; start and count of a range are 0.
-#[derive(Drop)]
+#[derive(Clone, Copy)]
 pub struct TermFields {
     pub kind: u32,
     pub field1: u32,

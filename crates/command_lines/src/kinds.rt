@@ -8,7 +8,7 @@ ghost use Rattle.command_lines.specs.CommandLines.{opens_context, is_context, li
 use super::lines::{all_printing, same_line, starts_with};
 use super::parentheses::all_shut;
 
-#[derive(Drop)]
+#[derive(Clone, Copy)]
 pub enum LineKind {
     Push,
     Pop,

@@ -1,3 +1,4 @@
+#![tactic(auto)]
 // A script's lines, in place: where one ends, whether two are the same, and which command of ours one is.
 mod kinds;
 mod lines;

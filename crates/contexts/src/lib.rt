@@ -1,3 +1,4 @@
+#![tactic(auto)]
 // RSolver.dfy: RContextNode, by its number in the book.
 ghost use Rattle.std.specs.Prelude.{◌≡◌, ◌≤◌};
 ghost use Rattle.contexts.specs.Path.{IsNode, IsBelow, IsParent, IsPath, IsMove, pops_of, IsApart, one_up};
@@ -42,7 +43,7 @@ pub fn path_of(book: &[u8], node: usize) -> Path
 }
 
 // On the way up from both nodes of a move: where each stands, and the pops so far.
-#[derive(Drop)]
+#[derive(Clone, Copy)]
 struct WayUp {
     old: usize,
     new: usize,

@@ -1,3 +1,4 @@
+#![tactic(auto)]
 // RSolver.dfy: SetContext and AdjustContext, and Prove up to the check, at a node of a tested book; and a node's depth.
 mod context;
 mod enter;

@@ -1,3 +1,4 @@
+#![tactic(auto)]
 // The constants that a walk leaves out, as a set by value: a bit for each number.
 ghost use Rattle.std.specs.Prelude.{◌≡◌, [], ◌+◌, ◌<◌, length};
 ghost use Rattle.book.specs.Book.{constants, size};

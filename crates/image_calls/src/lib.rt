@@ -1,3 +1,4 @@
+#![tactic(auto)]
 // The calls on a session's byte image, which the host holds: loaded, called, and stored again where the call is accepted.
 ghost use Rattle.std.specs.Prelude.{◌≡◌, [], length};
 ghost use Rattle.solvers.specs.Calls.{move_to, ask_for, reply_with, model_with};

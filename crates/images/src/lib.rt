@@ -1,3 +1,4 @@
+#![tactic(auto)]
 // The byte image of a session, which the host holds (docs/SESSION.md): kind, node, goal and what is owed, then two bytes for each level.
 // The narrow kind has the same four words.
 ghost use Rattle.std.specs.Prelude.{◌≡◌, ◌++◌, ◌+◌, ◌*◌, ◌%◌, ◌<◌, ◌≤◌, length, get_or, take, drop};

@@ -1,3 +1,4 @@
+#![tactic(auto)]
 // The four calls over a session behind a reference: each takes it apart into its four fields, calls the core by value on a session
 // built from them, and builds the caller's again from the four fields of the one that the core leaves.
 ghost use Rattle.std.specs.Prelude.{[]};

@@ -12,7 +12,7 @@ const NONE: u32 = 0;
 
 // The answer: 0, and the first check-sat that differs, counted from 1, or 0; or the refusal's number.
 #[repr(C)]
-#[derive(Drop)]
+#[derive(Clone, Copy)]
 pub struct AuditAnswered {
     pub refusal: u32,
     pub differs: u32,

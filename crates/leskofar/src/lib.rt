@@ -1,3 +1,4 @@
+#![tactic(auto)]
 // What C links: the public calls, on numbers and byte slices. include/leskofar.h says what each does.
 ghost use Rattle.std.specs.Prelude.{◌≡◌};
 ghost use Rattle.book_test.specs.BookTest.{tested_value, book_test_call};

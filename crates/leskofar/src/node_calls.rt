@@ -14,7 +14,7 @@ const FAILS: u32 = 1;
 
 // The answer: 0, what the test leads to and the first position that fails; or the refusal's number.
 #[repr(C)]
-#[derive(Drop)]
+#[derive(Clone, Copy)]
 pub struct NodesAnswered {
     pub refusal: u32,
     pub result: u32,

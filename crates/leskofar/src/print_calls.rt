@@ -15,7 +15,7 @@ use traces::trace;
 
 // The answer of a printing call: the refusal's number and 0, or 0 and the text's length.
 #[repr(C)]
-#[derive(Drop)]
+#[derive(Clone, Copy)]
 pub struct Told {
     pub refusal: u32,
     pub length: u64,

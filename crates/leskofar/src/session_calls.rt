@@ -27,7 +27,7 @@ const NO_SESSION: u32 = 20;
 
 // The answer of a session's call: 0, what it gives and the lengths of text and reason; or the refusal's number.
 #[repr(C)]
-#[derive(Drop)]
+#[derive(Clone, Copy)]
 pub struct Answered {
     pub refusal: u32,
     pub result: u32,

@@ -15,7 +15,7 @@ use refusal_numbers::number;
 
 // The answer: 0, the new record's number and the new book's length; or the refusal's number.
 #[repr(C)]
-#[derive(Drop)]
+#[derive(Clone, Copy)]
 pub struct AppendAnswered {
     pub refusal: u32,
     pub number: u32,

@@ -1,3 +1,4 @@
+#![tactic(auto)]
 // Levels of live lines, compared in place: each line as often in one as in the other.
 mod counts;
 mod levels;

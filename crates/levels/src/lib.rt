@@ -1,3 +1,4 @@
+#![tactic(auto)]
 // The declaring part of the walk, outside its cycle of calls: what is declared, and at which level.
 mod marks;
 mod types;
@@ -7,7 +8,7 @@ pub use session_levels::{AXIOM_PLACES, CONSTANT_PLACES, FUNCTION_PLACES, LITERAL
 pub use types::{declare_constant, declare_constant_types, declare_function, declare_new_types};
 
 // How far a walk has come: the next place in the text, and whether an axiom was looked up that has no term.
-#[derive(Drop)]
+#[derive(Clone, Copy)]
 pub struct Progress {
     pub at: usize,
     pub missing: bool,

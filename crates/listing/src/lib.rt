@@ -1,3 +1,4 @@
+#![tactic(auto)]
 // RSolver.dfy: RContextNode.Print and PrintProofObligation, and the call that prints what is to be proved at a node.
 ghost use Rattle.std.specs.Prelude.{◌≡◌, ◌<◌, length};
 ghost use Rattle.basics.specs.Write.{Wrote, WroteAt};

@@ -1,3 +1,4 @@
+#![tactic(auto)]
 // RSolver.dfy: RExpr.ToString of a book's term, at a place of a buffer. Names are raw.
 mod cycle;
 mod leaves;
@@ -5,7 +6,7 @@ mod leaves;
 pub use cycle::rexpr_to_string;
 
 // A term was written whole, up to a place; or all before its last child, up to a place, and the child and a parenthesis are left.
-#[derive(Drop)]
+#[derive(Clone, Copy)]
 pub enum Front {
     Whole(usize),
     Before(usize, usize),

@@ -15,7 +15,7 @@ use levels::{LITERAL_PLACES, Level};
 use literal_names::{Sought, agrees};
 
 // What a look at one term tells: how many literals it is, and whether it declared the name.
-#[derive(Drop)]
+#[derive(Clone, Copy)]
 pub struct Seen {
     pub literals: usize,
     pub here: bool,

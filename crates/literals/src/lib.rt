@@ -1,3 +1,4 @@
+#![tactic(auto)]
 // Declares literals. One whose whole name is declared already is not declared again.
 ghost use Rattle.std.specs.Prelude.{◌≡◌, ◌<◌, length, drop};
 ghost use Rattle.book.specs.Book.{terms, size};
@@ -22,14 +23,14 @@ use records::named;
 mod finding;
 
 // Where a search ends.
-#[derive(Drop)]
+#[derive(Clone, Copy)]
 pub enum Found {
     Term(usize),
     Nothing,
 }
 
 // A search, and how many literal terms it has gone through.
-#[derive(Drop)]
+#[derive(Clone, Copy)]
 pub struct Search {
     pub found: Found,
     pub gone: usize,

@@ -1,3 +1,4 @@
+#![tactic(auto)]
 // The live lines of a script, in place: an array of line starts with a count.
 ghost use Rattle.std.specs.Prelude.{◌≡◌, true, ◌+◌, ◌<◌, ◌≤◌, length, get_or, set};
 ghost use Rattle.command_lines.specs.Lines.{line_at};

@@ -1,3 +1,4 @@
+#![tactic(auto)]
 // The calls move and ask.
 mod asking;
 mod moving;

@@ -1,3 +1,4 @@
+#![tactic(auto)]
 // The search for a name by its text; and the name of a probe.
 ghost use Rattle.std.specs.Prelude.{◌≡◌, ◌<◌};
 ghost use Rattle.basics.specs.Text.{same};

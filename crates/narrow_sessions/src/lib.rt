@@ -1,3 +1,4 @@
+#![tactic(auto)]
 // The narrow kind of a session: its image, and its turns to the wide kind and back, by value and on images.
 mod image;
 mod image_turns;

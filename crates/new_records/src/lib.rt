@@ -1,3 +1,4 @@
+#![tactic(auto)]
 // What the writer's calls append: rows of fields, and names that are found or new.
 mod naming;
 mod rows;

@@ -15,14 +15,14 @@ use book::format::NAMES;
 use name_search::{PROBE_MOST, find_name};
 
 // A name's number, and whether it is to be appended.
-#[derive(Drop)]
+#[derive(Clone, Copy)]
 pub struct Numbered {
     pub number: usize,
     pub new: bool,
 }
 
 // The names of Record and RecordTracePoint.
-#[derive(Drop)]
+#[derive(Clone, Copy)]
 pub struct ProbeNames {
     pub probe: usize,
     pub probe_new: bool,

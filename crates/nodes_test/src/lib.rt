@@ -1,3 +1,4 @@
+#![tactic(auto)]
 // The test of a list of nodes before the shift: could a fresh session move to each of them? Nothing is sent, and nothing stored.
 ghost use Rattle.std.specs.Prelude.{◌≡◌};
 ghost use Rattle.basics.specs.Outcome.{accepted};
@@ -15,7 +16,7 @@ use number_lists::{number_at, number_count};
 use session_levels::blank;
 
 // The answer: each passes; or the first position that fails, counted from 0.
-#[derive(Drop)]
+#[derive(Clone, Copy)]
 pub enum NodesTested {
     Pass,
     Fails(usize),

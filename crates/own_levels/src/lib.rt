@@ -1,3 +1,4 @@
+#![tactic(auto)]
 // Our own text of a question, from the root, and whether the live lines of a script leave its levels.
 ghost use Rattle.std.specs.Prelude.{◌≡◌, ◌≤◌, length};
 ghost use Rattle.smt_engines.specs.Reader.{Stack, live, read};

@@ -12,7 +12,7 @@ const NEWLINE: u8 = 0x0A;
 // What a nested expression is indented by.
 const STEP: usize = 2;
 
-#[derive(Drop)]
+#[derive(Clone, Copy)]
 pub struct SExprPrintConfig {
     pub newlines: bool,
     pub indent: usize,

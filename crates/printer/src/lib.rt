@@ -1,3 +1,4 @@
+#![tactic(auto)]
 // SolverExpr.dfy: ToString in both layouts. A writer gets the free part of the buffer, and answers the length of its text.
 mod layout;
 mod text;

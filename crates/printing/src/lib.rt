@@ -1,3 +1,4 @@
+#![tactic(auto)]
 // The calls print and operator.
 mod operators;
 mod terms;

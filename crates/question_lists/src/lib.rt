@@ -1,3 +1,4 @@
+#![tactic(auto)]
 // A list of questions that is handed over as bytes: how many they are, the node and the goal of each, and whether the book can be asked them.
 ghost use Rattle.std.specs.Prelude.{◌≡◌, true, ◌<◌, length};
 ghost use Rattle.basics.specs.Lists.{all};

@@ -1,3 +1,4 @@
+#![tactic(auto)]
 // Readers of a book that keeps the book test's promise.
 ghost use Rattle.std.specs.Prelude.{◌≡◌};
 ghost use Rattle.book.specs.Book.{field, name_text};

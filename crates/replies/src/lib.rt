@@ -1,3 +1,4 @@
+#![tactic(auto)]
 // The calls reply and model: Solvers.dfy's Prove behind the check.
 mod closing;
 mod model;

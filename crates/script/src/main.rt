@@ -1,3 +1,4 @@
+#![tactic(auto)]
 // Reads a book and calls from standard input, and prints what a session sends for them: document 01's program.
 // Its output is `script_output` of crate script_text; docs/SCRIPT.md says what is proved of that and what is only tested.
 ghost use Rattle.std.specs.Prelude.{◌≡◌, ◌<◌, ◌≤◌, length, drop};

@@ -1,1 +1,2 @@
+#![tactic(auto)]
 // Worked examples of program script: see proofs/.

@@ -8,7 +8,7 @@ use super::lines::{is_refused, put_stopped, tell};
 use solvers::Answer;
 
 // What is printed stands at the front of the text buffer, and then of the closing one.
-#[derive(Drop)]
+#[derive(Clone, Copy)]
 pub struct Turn {
     pub written: usize,
     pub closed: usize,
@@ -16,7 +16,7 @@ pub struct Turn {
 }
 
 // An ask: the bytes at the front of the text buffer, and whether it was refused.
-#[derive(Drop)]
+#[derive(Clone, Copy)]
 pub struct Asked {
     pub written: usize,
     pub refused: bool,

@@ -1,3 +1,4 @@
+#![tactic(auto)]
 // What program script prints, call by call. The definition of the whole output is in specs/Script.antt.
 mod answers;
 mod lines;

@@ -18,7 +18,7 @@ const ASK: u32 = 2;
 const NO_TERM: u32 = 0;
 
 // It stops the program, asks, or else moves.
-#[derive(Drop)]
+#[derive(Clone, Copy)]
 pub struct Wanted {
     pub stops: bool,
     pub asks: bool,

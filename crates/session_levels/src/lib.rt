@@ -1,3 +1,4 @@
+#![tactic(auto)]
 // The levels that a session stores: for each record the level where it was declared, 0 for not declared.
 ghost use Rattle.std.specs.Prelude.{◌≡◌, ◌+◌, leb, length};
 ghost use Rattle.basics.specs.Text.{same, if◌then◌else◌};

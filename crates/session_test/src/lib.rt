@@ -1,3 +1,4 @@
+#![tactic(auto)]
 // Refusal 20: the session is not the one that a fresh session has after a move to its node, but for an open question.
 ghost use Rattle.std.specs.Prelude.{◌≡◌};
 ghost use Rattle.basics.specs.Text.{same};

@@ -1,3 +1,4 @@
+#![tactic(auto)]
 // SolverExpr.dfy: the strings of S(string), written into the free part of a buffer.
 ghost use Rattle.std.specs.Prelude.{◌++◌};
 ghost use Rattle.basics.specs.Text.{ascii};

@@ -1,3 +1,4 @@
+#![tactic(auto)]
 // The rows of SolverExpr.dfy's PP(seq): their parts, asked for by place. Nothing is written here.
 ghost use Rattle.std.specs.Prelude.{◌≡◌, ◌+◌};
 ghost use Rattle.book.specs.Book.{terms, lists, field};
@@ -10,14 +11,14 @@ use book::format::*;
 use solver_expr::{SExpr, SName, SRow, Word, to_sexpr, type_to_sexpr};
 
 // A part of a row: an S-expression, or a term that is still to be lowered.
-#[derive(Drop)]
+#[derive(Clone, Copy)]
 pub enum Part {
     Known(SExpr),
     Term(usize),
 }
 
 // What a row has at a place: a name, a row, a row that is its last part, or nothing any more.
-#[derive(Drop)]
+#[derive(Clone, Copy)]
 pub enum Turn {
     Name(SName),
     Row(SRow),

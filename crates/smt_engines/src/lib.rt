@@ -1,3 +1,4 @@
+#![tactic(auto)]
 // SmtEngines.dfy: the commands, each written as a line.
 mod assumptions;
 mod lines;

@@ -1,3 +1,4 @@
+#![tactic(auto)]
 // SolverExpr.dfy and the first part of RSolver.dfy: S-expressions over the book, and the lowering of terms. Nothing is written here.
 ghost use Rattle.std.specs.Prelude.{◌≡◌};
 ghost use Rattle.basics.specs.Basics.{int64};
@@ -17,14 +18,14 @@ pub use lowering::{integer_bits, to_sexpr, type_to_sexpr};
 const MAX: u64 = 0xFFFF_FFFF_FFFF_FFFF;
 
 // The answer of a printing call: the text's length.
-#[derive(Drop)]
+#[derive(Clone, Copy)]
 pub enum Printed {
     Text(usize),
     Refused(Refusal),
 }
 
 // The words of lowered terms.
-#[derive(Drop)]
+#[derive(Clone, Copy)]
 pub enum Word {
     False,
     True,
@@ -41,7 +42,7 @@ pub enum Word {
 }
 
 // The string of S(string): a word, the name of a built-in operator or of a type, constant or function, a number that is not negative, a literal's term, or the number of %tag.
-#[derive(Drop)]
+#[derive(Clone, Copy)]
 pub enum SName {
     Word(Word),
     Operator(usize),
@@ -52,7 +53,7 @@ pub enum SName {
 }
 
 // The seq of PP(seq), by the record that it is made of: a term, or for BoundVar a constant, for Terms a pattern, for Types a function. Minus has the magnitude of a negative number. Appl has the name of its head beside the term, and the term as u32 before it, so that a row takes three words: the printer holds two rows in each of its calls.
-#[derive(Drop)]
+#[derive(Clone, Copy)]
 pub enum SRow {
     Negation(usize),
     Minus(u64),
@@ -70,7 +71,7 @@ pub enum SRow {
 }
 
 // pun: solver expression. There is no heap: a value says which S-expression over the book is meant.
-#[derive(Drop)]
+#[derive(Clone, Copy)]
 pub enum SExpr {
     S(SName),
     PP(SRow),

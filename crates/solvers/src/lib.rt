@@ -1,3 +1,4 @@
+#![tactic(auto)]
 // Solvers.dfy: the session. The definitions are in specs/; the calls are in the crates session_test, moves and replies, the stack rule in stack_rule.
 ghost use Rattle.std.specs.Prelude.{◌≡◌};
 ghost use Rattle.solvers.specs.Session.{fresh_session};
@@ -6,7 +7,7 @@ use book::Refusal;
 use session_levels::{LEVEL_COUNT, Level};
 
 // What an open question waits for.
-#[derive(Drop)]
+#[derive(Clone, Copy)]
 pub enum Owed {
     Nothing,
     Reply,
@@ -32,7 +33,7 @@ pub struct NarrowSession {
 }
 
 // The answer of move, ask, reply and model: the text's length, and with a reason the reason's too.
-#[derive(Drop)]
+#[derive(Clone, Copy)]
 pub enum Answer {
     Written(usize),
     Proved(usize),

@@ -1,3 +1,4 @@
+#![tactic(auto)]
 // RSolver.dfy: PrintTrace, and the call that prints a node's trace.
 ghost use Rattle.std.specs.Prelude.{◌≡◌, length};
 ghost use Rattle.basics.specs.Write.{Wrote};

@@ -1,3 +1,4 @@
+#![tactic(auto)]
 // RSolver.dfy: DeclareNewSymbols. The term walk, the axiom walk and the list walks call each other.
 mod cycle;
 mod leaves;

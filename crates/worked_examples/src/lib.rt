@@ -1,1 +1,2 @@
+#![tactic(auto)]
 // Worked examples of the definitions: see proofs/.

@@ -1,4 +1,5 @@
 use Rattle.book_test.proofs.Answers.{untouched, zeroed, fields-fail, terms-fail, range-pass, refused-1, refused-2, refused-3, refused-4, refused-5, refused-6, refused-28, accepted-all}
+use Rattle.book_test.proofs.Given.{followed, rooted, spelled}
 use Rattle.book_test.proofs.Contents.{contents-stand, all_laid}
 use Rattle.book_test.specs.BookTest.{tested_value, book_test_call}
 use Rattle.book_forest.proofs.Stored.{room-enough}
@@ -46,28 +47,28 @@ is_forest-requires c =
     let L = all_laid c.args.book.now (passed c.laid_out.ensures (not_from_true _ c.if-not-laid_out.false)) (passed c.counts_fit.ensures (not_from_true _ c.if-not-counts_fit.false)) in (
       L,
       followed _ (range-pass _ (passed c.fields_in_range.ensures (not_from_true _ c.if-not-fields_in_range.false)) (passed c.terms_in_range.ensures (not_from_true _ c.if-not-terms_in_range.false))),
-      room-enough (size c.args.book.now terms) c.clear.new.0 (omega (arith, L.terms-laid.few, c.clear.auto.0, c.if-scratch-lt-SCRATCH_LEAST.false)),
-      c.clear.ensures ∙ ap (λ (n : ℕ). replicate n 0) (sym c.clear.auto.0),
+      room-enough (size c.args.book.now terms) c.clear.new.scratch (omega (arith, L.terms-laid.few, c.clear.auto.scratch, c.if-scratch-lt-SCRATCH_LEAST.false)),
+      c.clear.ensures ∙ ap (λ (n : ℕ). replicate n 0) (sym c.clear.auto.scratch),
     )
 
 pub returns-then-not-is_forest : goal.returns-then-not-is_forest
 unfolding tested_value number book_test_call
-returns-then-not-is_forest c = (refused-5 c.args.book.now (length c.args.scratch.now) c.if-scratch-lt-SCRATCH_LEAST.false (passed c.laid_out.ensures (not_from_true _ c.if-not-laid_out.false)) (passed c.counts_fit.ensures (not_from_true _ c.if-not-counts_fit.false)) (range-pass _ (passed c.fields_in_range.ensures (not_from_true _ c.if-not-fields_in_range.false)) (passed c.terms_in_range.ensures (not_from_true _ c.if-not-terms_in_range.false))) (failed c.is_forest.ensures.0 (not_from_false _ c.if-not-is_forest.true)), c.is_forest.ensures.1 ∙ ap (λ (n : ℕ). replicate n 0) c.clear.auto.0 ∙ zeroed c.args.scratch.now c.if-scratch-lt-SCRATCH_LEAST.false)
+returns-then-not-is_forest c = (refused-5 c.args.book.now (length c.args.scratch.now) c.if-scratch-lt-SCRATCH_LEAST.false (passed c.laid_out.ensures (not_from_true _ c.if-not-laid_out.false)) (passed c.counts_fit.ensures (not_from_true _ c.if-not-counts_fit.false)) (range-pass _ (passed c.fields_in_range.ensures (not_from_true _ c.if-not-fields_in_range.false)) (passed c.terms_in_range.ensures (not_from_true _ c.if-not-terms_in_range.false))) (failed c.is_forest.ensures.0 (not_from_false _ c.if-not-is_forest.true)), c.is_forest.ensures.1 ∙ ap (λ (n : ℕ). replicate n 0) c.clear.auto.scratch ∙ zeroed c.args.scratch.now c.if-scratch-lt-SCRATCH_LEAST.false)
 
 pub shallow-requires : goal.shallow-requires
 shallow-requires c = ((all_laid _ (passed c.laid_out.ensures (not_from_true _ c.if-not-laid_out.false)) (passed c.counts_fit.ensures (not_from_true _ c.if-not-counts_fit.false))).contexts-laid, rooted _ (range-pass _ (passed c.fields_in_range.ensures (not_from_true _ c.if-not-fields_in_range.false)) (passed c.terms_in_range.ensures (not_from_true _ c.if-not-terms_in_range.false))))
 
 pub returns-then-not-shallow : goal.returns-then-not-shallow
 unfolding tested_value number book_test_call
-returns-then-not-shallow c = (refused-6 c.args.book.now (length c.args.scratch.now) c.if-scratch-lt-SCRATCH_LEAST.false (passed c.laid_out.ensures (not_from_true _ c.if-not-laid_out.false)) (passed c.counts_fit.ensures (not_from_true _ c.if-not-counts_fit.false)) (range-pass _ (passed c.fields_in_range.ensures (not_from_true _ c.if-not-fields_in_range.false)) (passed c.terms_in_range.ensures (not_from_true _ c.if-not-terms_in_range.false))) (passed c.is_forest.ensures.0 (not_from_true _ c.if-not-is_forest.false)) (failed c.shallow.ensures (not_from_false _ c.if-not-shallow.true)), c.is_forest.ensures.1 ∙ ap (λ (n : ℕ). replicate n 0) c.clear.auto.0 ∙ zeroed c.args.scratch.now c.if-scratch-lt-SCRATCH_LEAST.false)
+returns-then-not-shallow c = (refused-6 c.args.book.now (length c.args.scratch.now) c.if-scratch-lt-SCRATCH_LEAST.false (passed c.laid_out.ensures (not_from_true _ c.if-not-laid_out.false)) (passed c.counts_fit.ensures (not_from_true _ c.if-not-counts_fit.false)) (range-pass _ (passed c.fields_in_range.ensures (not_from_true _ c.if-not-fields_in_range.false)) (passed c.terms_in_range.ensures (not_from_true _ c.if-not-terms_in_range.false))) (passed c.is_forest.ensures.0 (not_from_true _ c.if-not-is_forest.false)) (failed c.shallow.ensures (not_from_false _ c.if-not-shallow.true)), c.is_forest.ensures.1 ∙ ap (λ (n : ℕ). replicate n 0) c.clear.auto.scratch ∙ zeroed c.args.scratch.now c.if-scratch-lt-SCRATCH_LEAST.false)
 
 pub names_good-requires : goal.names_good-requires
 names_good-requires c = (all_laid _ (passed c.laid_out.ensures (not_from_true _ c.if-not-laid_out.false)) (passed c.counts_fit.ensures (not_from_true _ c.if-not-counts_fit.false)), spelled _ (range-pass _ (passed c.fields_in_range.ensures (not_from_true _ c.if-not-fields_in_range.false)) (passed c.terms_in_range.ensures (not_from_true _ c.if-not-terms_in_range.false))))
 
 pub returns-then-not-names_good : goal.returns-then-not-names_good
 unfolding tested_value number book_test_call
-returns-then-not-names_good c = (refused-28 c.args.book.now (length c.args.scratch.now) c.if-scratch-lt-SCRATCH_LEAST.false (passed c.laid_out.ensures (not_from_true _ c.if-not-laid_out.false)) (passed c.counts_fit.ensures (not_from_true _ c.if-not-counts_fit.false)) (range-pass _ (passed c.fields_in_range.ensures (not_from_true _ c.if-not-fields_in_range.false)) (passed c.terms_in_range.ensures (not_from_true _ c.if-not-terms_in_range.false))) (passed c.is_forest.ensures.0 (not_from_true _ c.if-not-is_forest.false)) (passed c.shallow.ensures (not_from_true _ c.if-not-shallow.false)) (failed c.names_good.ensures (not_from_false _ c.if-not-names_good.true)), c.is_forest.ensures.1 ∙ ap (λ (n : ℕ). replicate n 0) c.clear.auto.0 ∙ zeroed c.args.scratch.now c.if-scratch-lt-SCRATCH_LEAST.false)
+returns-then-not-names_good c = (refused-28 c.args.book.now (length c.args.scratch.now) c.if-scratch-lt-SCRATCH_LEAST.false (passed c.laid_out.ensures (not_from_true _ c.if-not-laid_out.false)) (passed c.counts_fit.ensures (not_from_true _ c.if-not-counts_fit.false)) (range-pass _ (passed c.fields_in_range.ensures (not_from_true _ c.if-not-fields_in_range.false)) (passed c.terms_in_range.ensures (not_from_true _ c.if-not-terms_in_range.false))) (passed c.is_forest.ensures.0 (not_from_true _ c.if-not-is_forest.false)) (passed c.shallow.ensures (not_from_true _ c.if-not-shallow.false)) (failed c.names_good.ensures (not_from_false _ c.if-not-names_good.true)), c.is_forest.ensures.1 ∙ ap (λ (n : ℕ). replicate n 0) c.clear.auto.scratch ∙ zeroed c.args.scratch.now c.if-scratch-lt-SCRATCH_LEAST.false)
 
 pub returns : goal.returns
 unfolding tested_value number book_test_call
-returns c = (accepted-all c.args.book.now (length c.args.scratch.now) c.if-scratch-lt-SCRATCH_LEAST.false (passed c.laid_out.ensures (not_from_true _ c.if-not-laid_out.false)) (passed c.counts_fit.ensures (not_from_true _ c.if-not-counts_fit.false)) (range-pass _ (passed c.fields_in_range.ensures (not_from_true _ c.if-not-fields_in_range.false)) (passed c.terms_in_range.ensures (not_from_true _ c.if-not-terms_in_range.false))) (passed c.is_forest.ensures.0 (not_from_true _ c.if-not-is_forest.false)) (passed c.shallow.ensures (not_from_true _ c.if-not-shallow.false)) (passed c.names_good.ensures (not_from_true _ c.if-not-names_good.false)), c.is_forest.ensures.1 ∙ ap (λ (n : ℕ). replicate n 0) c.clear.auto.0 ∙ zeroed c.args.scratch.now c.if-scratch-lt-SCRATCH_LEAST.false)
+returns c = (accepted-all c.args.book.now (length c.args.scratch.now) c.if-scratch-lt-SCRATCH_LEAST.false (passed c.laid_out.ensures (not_from_true _ c.if-not-laid_out.false)) (passed c.counts_fit.ensures (not_from_true _ c.if-not-counts_fit.false)) (range-pass _ (passed c.fields_in_range.ensures (not_from_true _ c.if-not-fields_in_range.false)) (passed c.terms_in_range.ensures (not_from_true _ c.if-not-terms_in_range.false))) (passed c.is_forest.ensures.0 (not_from_true _ c.if-not-is_forest.false)) (passed c.shallow.ensures (not_from_true _ c.if-not-shallow.false)) (passed c.names_good.ensures (not_from_true _ c.if-not-names_good.false)), c.is_forest.ensures.1 ∙ ap (λ (n : ℕ). replicate n 0) c.clear.auto.scratch ∙ zeroed c.args.scratch.now c.if-scratch-lt-SCRATCH_LEAST.false)

@@ -17,10 +17,10 @@ returns c =
     let letter = c.args.c in
     let below : ltb letter 128 ≡ true = lt-ltb letter 128 c.if-c-ge128.false in
     elim c.if-c-lt64.branch [
-      then-c-lt64 w ↦
-        let e : c.if-c-lt64.mask ≡ c.args.low = omega arith in
-        rw (below, lt-ltb letter 64 (omega arith), e)
-    | else-c-lt64 w ↦
-        let e : c.if-c-lt64.mask ≡ c.args.high = omega arith in
-        rw (below, le-ltb letter 64 (omega arith), e)
+      | then-c-lt64 w ↦
+          let e : c.if-c-lt64.mask ≡ c.args.low = omega arith in
+          rw (below, lt-ltb letter 64 (omega arith), e)
+      | else-c-lt64 w ↦
+          let e : c.if-c-lt64.mask ≡ c.args.high = omega arith in
+          rw (below, le-ltb letter 64 (omega arith), e)
     ]

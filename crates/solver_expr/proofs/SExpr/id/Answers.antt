@@ -1,0 +1,5 @@
+use Rattle.solver_expr.proofs.Values.{is-id}
+use Rattle.solver_expr.proofs.SExpr.id.Goals as goal
+
+pub returns : goal.returns
+returns c = is-id _ c.requires c.field.ensures.is
