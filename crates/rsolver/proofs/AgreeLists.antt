@@ -52,14 +52,14 @@ count-join (suc l ∷ ls) (suc k) n h = ap suc (count-join ls k n (le_of_suc-le-
     at true = refl
     at false = refl
 
-pub within-join : {ls : List ℕ} {n : ℕ} → All (λ l. l ≤ n) ls → (k : ℕ) → All (λ l. l ≤ n) (join_at ls k n)
+pub within-join : {n : ℕ} {ls : List ℕ} → All (λ l. l ≤ n) ls → (k : ℕ) → All (λ l. l ≤ n) (join_at ls k n)
 unfolding join_at
 within-join end k = end
 within-join {n = n} (more {a = zero} h hs) zero = more {a = n} (omega arith) hs
 within-join (more {a = suc l} h hs) zero = more {a = suc l} h hs
 within-join (more {a = l} h hs) (suc k) = more {a = l} h (within-join hs k)
 
-pub within_more : {ls : List ℕ} {n : ℕ} → All (λ l. l ≤ n) ls → All (λ l. l ≤ suc n) ls
+pub within_more : {n : ℕ} {ls : List ℕ} → All (λ l. l ≤ n) ls → All (λ l. l ≤ suc n) ls
 within_more end = end
 within_more (more {a = l} h hs) = more {a = l} (omega arith) (within_more hs)
 
@@ -95,7 +95,7 @@ unfolding forget
 length-forget n [] = refl
 length-forget n (l ∷ ls) = ap suc (length-forget n ls)
 
-pub forget-within : {ls : List ℕ} {n : ℕ} → All (λ l. l ≤ n) ls → forget (suc n) ls ≡ ls
+pub forget-within : {n : ℕ} {ls : List ℕ} → All (λ l. l ≤ n) ls → forget (suc n) ls ≡ ls
 unfolding forget
 forget-within end = refl
 forget-within {n = n} (more {a = l} h hs) = rw (lt-leb (suc n) l (omega arith), forget-within hs)

@@ -1,0 +1,5 @@
+use Rattle.excluded.proofs.Sets.{excludes-none}
+use Rattle.excluded.proofs.nothing.Goals as goal
+
+pub returns : goal.returns
+returns c = excludes-none
