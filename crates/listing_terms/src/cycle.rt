@@ -25,7 +25,7 @@ use book::format::{
 use records::named;
 
 // Term t. A last child is printed in its turn, and its parenthesis closes with the others: only a child before other parts costs a call.
-#[cycle(patterns_to_string_put_arguments_put_front_put_if_put_let_put_quantifier_rexpr_list_to_string_rexpr_to_string)]
+#[cycle(terms)]
 pub fn rexpr_to_string(book: &[u8], t: usize, at: usize, out: &mut [u8]) -> usize
     requires { Promise book.now × (t < size book.now terms) }
     ensures { WroteAt (rexpr_to_string (term book.now t)) at out.old out.new result }
@@ -49,7 +49,7 @@ pub fn rexpr_to_string(book: &[u8], t: usize, at: usize, out: &mut [u8]) -> usiz
 }
 
 // Term t up to its last child.
-#[cycle(patterns_to_string_put_arguments_put_front_put_if_put_let_put_quantifier_rexpr_list_to_string_rexpr_to_string)]
+#[cycle(terms)]
 fn put_front(book: &[u8], t: usize, at: usize, out: &mut [u8]) -> Front
     requires { Promise book.now × (t < size book.now terms) }
     ensures { Fronted book.now (rexpr_to_string (term book.now t)) t at out.old out.new result }
@@ -73,7 +73,7 @@ fn put_front(book: &[u8], t: usize, at: usize, out: &mut [u8]) -> Front
 }
 
 // The arguments of application t.
-#[cycle(patterns_to_string_put_arguments_put_front_put_if_put_let_put_quantifier_rexpr_list_to_string_rexpr_to_string)]
+#[cycle(terms)]
 fn put_arguments(book: &[u8], t: usize, at: usize, out: &mut [u8]) -> Front
     requires { Promise book.now × (t < size book.now terms) × Range book.now t (field book.now terms t 2) (field book.now terms t 3) }
     ensures { Fronted book.now (arguments_text book.now t) t at out.old out.new result }
@@ -91,7 +91,7 @@ fn put_arguments(book: &[u8], t: usize, at: usize, out: &mut [u8]) -> Front
 }
 
 // IfThenElse t.
-#[cycle(patterns_to_string_put_arguments_put_front_put_if_put_let_put_quantifier_rexpr_list_to_string_rexpr_to_string)]
+#[cycle(terms)]
 fn put_if(book: &[u8], t: usize, at: usize, out: &mut [u8]) -> Front
     requires { Promise book.now × (t < size book.now terms) × GoodIfThenElse book.now t }
     ensures { Fronted book.now (if_text book.now t) t at out.old out.new result }
@@ -105,7 +105,7 @@ fn put_if(book: &[u8], t: usize, at: usize, out: &mut [u8]) -> Front
 }
 
 // LetExpr t.
-#[cycle(patterns_to_string_put_arguments_put_front_put_if_put_let_put_quantifier_rexpr_list_to_string_rexpr_to_string)]
+#[cycle(terms)]
 fn put_let(book: &[u8], t: usize, at: usize, out: &mut [u8]) -> Front
     requires { Promise book.now × (t < size book.now terms) × GoodLet book.now t }
     ensures { Fronted book.now (let_text book.now t) t at out.old out.new result }
@@ -119,7 +119,7 @@ fn put_let(book: &[u8], t: usize, at: usize, out: &mut [u8]) -> Front
 }
 
 // QuantifierExpr t.
-#[cycle(patterns_to_string_put_arguments_put_front_put_if_put_let_put_quantifier_rexpr_list_to_string_rexpr_to_string)]
+#[cycle(terms)]
 fn put_quantifier(book: &[u8], t: usize, at: usize, out: &mut [u8]) -> Front
     requires { Promise book.now × (t < size book.now terms) × GoodQuantifier book.now t }
     ensures { Fronted book.now (quantifier_text book.now t) t at out.old out.new result }
@@ -136,7 +136,7 @@ fn put_quantifier(book: &[u8], t: usize, at: usize, out: &mut [u8]) -> Front
 }
 
 // RExprListToString of the terms in a range of lists, each below the limit.
-#[cycle(patterns_to_string_put_arguments_put_front_put_if_put_let_put_quantifier_rexpr_list_to_string_rexpr_to_string)]
+#[cycle(terms)]
 fn rexpr_list_to_string(
     book: &[u8],
     limit: usize,
@@ -160,7 +160,7 @@ fn rexpr_list_to_string(
 }
 
 // PatternsToString of the patterns in a range of lists, whose terms are below the limit.
-#[cycle(patterns_to_string_put_arguments_put_front_put_if_put_let_put_quantifier_rexpr_list_to_string_rexpr_to_string)]
+#[cycle(terms)]
 fn patterns_to_string(
     book: &[u8],
     limit: usize,

@@ -20,7 +20,7 @@ use literals::declare_literal;
 use smt_engines::assume;
 
 // Term t.
-#[cycle(send_axiom_walk_axiom_walk_axioms_walk_operator_walk_patterns_walk_term_walk_terms)]
+#[cycle(walk)]
 fn walk_term(
     book: &[u8],
     t: usize,
@@ -82,7 +82,7 @@ fn walk_term(
 }
 
 // The terms in a range of lists, each below the limit.
-#[cycle(send_axiom_walk_axiom_walk_axioms_walk_operator_walk_patterns_walk_term_walk_terms)]
+#[cycle(walk)]
 fn walk_terms(
     book: &[u8],
     limit: usize,
@@ -108,7 +108,7 @@ fn walk_terms(
 }
 
 // The patterns in a range of lists, whose terms are below the limit.
-#[cycle(send_axiom_walk_axiom_walk_axioms_walk_operator_walk_patterns_walk_term_walk_terms)]
+#[cycle(walk)]
 fn walk_patterns(
     book: &[u8],
     limit: usize,
@@ -136,7 +136,7 @@ fn walk_patterns(
 }
 
 // Function k, where it is applied.
-#[cycle(send_axiom_walk_axiom_walk_axioms_walk_operator_walk_patterns_walk_term_walk_terms)]
+#[cycle(walk)]
 fn walk_operator(
     book: &[u8],
     k: usize,
@@ -159,7 +159,7 @@ fn walk_operator(
 }
 
 // The axioms in a range of lists.
-#[cycle(send_axiom_walk_axiom_walk_axioms_walk_operator_walk_patterns_walk_term_walk_terms)]
+#[cycle(walk)]
 fn walk_axioms(
     book: &[u8],
     start: usize,
@@ -183,7 +183,7 @@ fn walk_axioms(
 }
 
 // Axiom k: it is looked up, and sent where it is new and all that it explains is declared.
-#[cycle(send_axiom_walk_axiom_walk_axioms_walk_operator_walk_patterns_walk_term_walk_terms)]
+#[cycle(walk)]
 fn walk_axiom(
     book: &[u8],
     k: usize,
@@ -215,7 +215,7 @@ fn walk_axiom(
 }
 
 // Axiom k, whose term is `cond`: marked, its own symbols declared with nothing excluded, asserted.
-#[cycle(send_axiom_walk_axiom_walk_axioms_walk_operator_walk_patterns_walk_term_walk_terms)]
+#[cycle(walk)]
 fn send_axiom(
     book: &[u8],
     k: usize,

@@ -8,10 +8,10 @@ pub loop-k-init : goal.loop-k-init
 loop-k-init c = (refl, search rules)
 
 pub returns-then-is_push : goal.returns-then-is_push
-returns-then-is_push c = sym (c.loop-k.invariant.0 ∙ back-here _ _ _ (omega (arith, c.loop-k-test.true)) c.start_of_lem.ensures c.is_push.ensures c.if-is_push.true)
+returns-then-is_push c = sym (c.loop-k.invariant.0 ∙ back-here _ _ _ (omega (arith, c.loop-k-test.true)) c.start_of.ensures c.is_push.ensures c.if-is_push.true)
 
 pub loop-k-preserved : goal.loop-k-preserved
-loop-k-preserved c = (c.loop-k.invariant.0 ∙ back_more _ _ _ (omega (arith, c.loop-k-test.true)) c.start_of_lem.ensures c.is_push.ensures c.if-is_push.false, search rules)
+loop-k-preserved c = (c.loop-k.invariant.0 ∙ back_more _ _ _ (omega (arith, c.loop-k-test.true)) c.start_of.ensures c.is_push.ensures c.if-is_push.false, search rules)
 
 pub returns : goal.returns
 returns c = sym (c.loop-k.invariant.0 ∙ back_none _ _ (omega (arith, c.loop-k-test.false)))

@@ -1,4 +1,4 @@
-use Prim.Native.Nat.{ℕ, ◌-◌}
+use Prim.Native.Nat.{◌-◌}
 use native.Mathlib.Omega.{arith}
 use mathlib.Core.Path.{◌≡◌}
 use Rattle.basics.proofs.Places.{at-then, at-as, at_length}
@@ -7,31 +7,7 @@ use Rattle.listing_terms.proofs.Lists.{terms-none, terms-more, patterns-none, pa
 use Rattle.book_test.proofs.TermKinds.{good-literal, good-id, good-if, good-let, good-quantifier}
 use Rattle.listing_terms.proofs.Shapes.{good-arguments, application-kind, of-boolean, of-integer, of-literal, of-id, of-application, of-if, of-let, of-quantifier}
 use Rattle.listing_terms.proofs.Fronts.{whole, before, fronted-as, fronted-then, no_arguments, some-arguments, if-is, let-is, quantifier-is, turning-start, turning-falls, turning-more, turning-done}
-use Rattle.listing_terms.proofs.cycle.+patterns_to_string_put_arguments_put_front_put_if_put_let_put_quantifier_rexpr_list_to_string_rexpr_to_string.Goals as goal
-
-abbrev put-arguments-claims : ℕ → put-arguments-lts.Claims
-put-arguments-claims t = (field-reads.Asked, field-reads.Learnt, put-at-reads.Asked, put-at-reads.Learnt, rexpr-list-to-string-below t, rexpr-list-to-string.Post, put-lead-reads.Asked, put-lead-reads.Learnt)
-
-abbrev put-front-claims : ℕ → put-front-lts.Claims
-put-front-claims t = (field-reads.Asked, field-reads.Learnt, put-boolean-reads.Asked, put-boolean-reads.Learnt, put-integer-reads.Asked, put-integer-reads.Learnt, custom-literal-to-string-reads.Asked, custom-literal-to-string-reads.Learnt, named-reads.Asked, named-reads.Learnt, put-at-reads.Asked, put-at-reads.Learnt, put-if-below t, put_if.Post, put-let-below t, put-let.Post, put-quantifier-below t, put-quantifier.Post, operator-to-string-reads.Asked, operator-to-string-reads.Learnt, put-arguments-below t, put-arguments.Post)
-
-abbrev put-if-claims : ℕ → put-if-lts.Claims
-put-if-claims t = (put-at-reads.Asked, put-at-reads.Learnt, field-reads.Asked, field-reads.Learnt, rexpr-to-string-below t, rexpr-to-string.Post)
-
-abbrev put-let-claims : ℕ → put-let-lts.Claims
-put-let-claims t = (put-at-reads.Asked, put-at-reads.Learnt, field-reads.Asked, field-reads.Learnt, bound-var-to-string-reads.Asked, bound-var-to-string-reads.Learnt, rexpr-to-string-below t, rexpr-to-string.Post)
-
-abbrev patterns-to-string-claims : ℕ → patterns-to-string-lts.Claims
-patterns-to-string-claims t = (field-reads.Asked, field-reads.Learnt, put-at-reads.Asked, put-at-reads.Learnt, rexpr-list-to-string-below t, rexpr-list-to-string.Post)
-
-abbrev put-quantifier-claims : ℕ → put-quantifier-lts.Claims
-put-quantifier-claims t = (put-quantifier-opening-reads.Asked, put-quantifier-opening-reads.Learnt, field-reads.Asked, field-reads.Learnt, bound-vars-to-string-reads.Asked, bound-vars-to-string-reads.Learnt, patterns-to-string-below t, patterns-to-string.Post, put-at-reads.Asked, put-at-reads.Learnt)
-
-abbrev rexpr-to-string-claims : ℕ → rexpr-to-string-lts.Claims
-rexpr-to-string-claims t = (put-front-below t, put_front.Post, put-closing-reads.Asked, put-closing-reads.Learnt)
-
-abbrev rexpr-list-to-string-claims : ℕ → rexpr-list-to-string-lts.Claims
-rexpr-list-to-string-claims t = (field-reads.Asked, field-reads.Learnt, put-lead-reads.Asked, put-lead-reads.Learnt, rexpr-to-string-below t, rexpr-to-string.Post)
+use Rattle.listing_terms.proofs.cycle.+terms.Goals as goal
 
 pub patterns_to_string-loop-i-init : goal.patterns_to_string-loop-i-init
 patterns_to_string-loop-i-init t c = (omega arith, patterns-none _ _ 0 (omega arith))

@@ -2,7 +2,7 @@ use Prim.Native.Nat.{◌≤◌, ◌+◌, ◌-◌, ◌*◌}
 use Rattle.basics.specs.Write.{WroteAt}
 use Rattle.listing_terms.specs.Texts.{terms_text, patterns_text}
 use Rattle.listing_terms.proofs.Fronts.{Turning}
-use Rattle.listing_terms.proofs.cycle.+patterns_to_string_put_arguments_put_front_put_if_put_let_put_quantifier_rexpr_list_to_string_rexpr_to_string.Given as goal
+use Rattle.listing_terms.proofs.cycle.+terms.Given as goal
 
 abbrev pub decreases-put_arguments : goal.decreases-put_arguments
 decreases-put_arguments l = 8 * l.t + 5
@@ -29,10 +29,10 @@ abbrev pub decreases-rexpr_list_to_string : goal.decreases-rexpr_list_to_string
 decreases-rexpr_list_to_string l = 8 * l.limit + 3
 
 abbrev pub invariant-patterns_to_string-loop-i : goal.invariant-patterns_to_string-loop-i
-invariant-patterns_to_string-loop-i l = (i ≤ l.count) × WroteAt (patterns_text l.book l.start i) l.at l.initial.out l.done l.i
+invariant-patterns_to_string-loop-i l = (l.i ≤ l.count) × WroteAt (patterns_text l.book l.start l.i) l.at l.initial.out l.out l.done
 
 abbrev pub decreases-patterns_to_string-loop-i : goal.decreases-patterns_to_string-loop-i
-decreases-patterns_to_string-loop-i l = l.count - i
+decreases-patterns_to_string-loop-i l = l.count - l.i
 
 abbrev pub invariant-rexpr_list_to_string-loop-i : goal.invariant-rexpr_list_to_string-loop-i
 invariant-rexpr_list_to_string-loop-i l = (l.i ≤ l.count) × WroteAt (terms_text l.book l.start l.i) l.at l.initial.out l.out l.done
