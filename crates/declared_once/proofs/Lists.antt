@@ -9,7 +9,7 @@ use mathlib.Core.List.{List, [], ◌∷◌, ◌++◌, map}
 use lib.Dec.{eqb}
 use borrow.Author.Tests.{eqb-true, eq-eqb, not-true}
 use Rattle.basics.specs.Lists.{all, join_below}
-use Rattle.basics.proofs.All.{All, more, all_true}
+use Rattle.basics.proofs.All.{All, end, more, all_true}
 use Rattle.basics.proofs.Bool.{and_both}
 use Rattle.declared_once.specs.Symbols.{times, Among, here, there}
 use Rattle.declared_once.specs.ToldApart.{apart}
@@ -35,6 +35,7 @@ among-map f here = here
 among-map f (there i) = there (among-map f i)
 
 pub all_among : {A : Type 0} {P : A → Type 0} {x : A} {l : List A} → All P l → Among x l → P x
+all_among end i = elim i [ ]
 all_among (more h hs) here = h
 all_among (more h hs) (there i) = all_among hs i
 

@@ -36,7 +36,7 @@ pub struct Answered {
 }
 
 fn accepted(res: u32, text: usize, reason: usize) -> Answered
-    ensures* { λ r. ⌜ r ≡ record { refusal = 0; result = res; text = text; reason = reason } ⌝ }
+    ensures { result ≡ record { refusal = 0; result = res; text = text; reason = reason } }
 {
     Answered {
         refusal: ACCEPTED,

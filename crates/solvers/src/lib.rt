@@ -15,7 +15,7 @@ pub enum Owed {
 }
 
 // A session between calls: the present node, the open question's goal or 0, what is owed, and the level of each record.
-#[derive(Drop)]
+#[derive(Clone, Copy)]
 pub struct Session {
     pub node: u32,
     pub goal: u32,
@@ -24,7 +24,7 @@ pub struct Session {
 }
 
 // The narrow kind of a session, with one byte for each level: the two turns take and give it, and no other call.
-#[derive(Drop)]
+#[derive(Clone, Copy)]
 pub struct NarrowSession {
     pub node: u32,
     pub goal: u32,
@@ -42,7 +42,7 @@ pub enum Answer {
 }
 
 // What a call returns.
-#[derive(Drop)]
+#[derive(Clone, Copy)]
 pub struct Called {
     pub answer: Answer,
     pub session: Session,
