@@ -20,9 +20,9 @@ LEMMAS = {
     "node_at": ["listing/proofs/Lines", "traces/proofs/Lines", "book/proofs/Terms", "engine/proofs/Entering", "book_test/proofs/Depth"],
     "plain_type": ["solver_expr/proofs/SymbolsHold"],
     "laid_from": ["book_layout/proofs/Contents"],
-    "laid_out": ["book_layout/proofs/Contents", "book_growth/proofs/Grown"],
+    "laid_out": ["book_layout/proofs/Contents", "book_growth/proofs/Grown", "worked_examples/proofs/IntegerBooks"],
     "function_of": ["declared_once/proofs/OfBook"],
-    "no_narrow": ["narrow_sessions/proofs/NarrowBytes", "narrow_sessions/proofs/Images", "narrow_sessions/proofs/Turning"],
+    "no_narrow": ["narrow_sessions/proofs/NarrowBytes", "narrow_sessions/proofs/image/no_narrow/Proof"],
     "is_ours": ["live_lines/proofs/Hearing", "live_lines/proofs/Living", "script_checks/proofs/Reading", "command_lines/proofs/Reading"],
     "node_row": ["writer_bodies/proofs/NewTerms"],
 }

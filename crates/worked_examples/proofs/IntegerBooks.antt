@@ -28,7 +28,7 @@ use Rattle.book_test.specs.BookTest.{in_range, book_test}
 use Rattle.book_layout.specs.Layout.{Bodies, body_at, count_of, assembled, Fits}
 use Rattle.book_layout.proofs.Agree.{join-agree}
 use Rattle.book_layout.proofs.Assembled.{size-assembled, field-assembled}
-use Rattle.book_layout.proofs.Contents.{laid_out, counts-fit}
+use Rattle.book_layout.proofs.Contents.{laid-out, counts-fit}
 use Rattle.book_layout.proofs.Few.{few-fit}
 use Rattle.book_layout.proofs.Rows.{Words, length-records, field-records}
 
@@ -184,7 +184,7 @@ module _ (n m : ℕ) (term : ℕ → ℕ) (few : n ≤ terms.most) (short : m �
   pub integer-test : {forest : Bool} → is_forest book ≡ forest → book_test book ≡ answer_of forest (leb m depth_most)
   unfolding book_test refuse ◌>>◌
   integer-test {forest} e =
-      rw (laid_out own fits, counts-fit own fits most, in-range, e, chain-shallow book (λ k h. context-field k (omega (arith, contexts-size)) 0 (omega arith)), contexts-size, names-good)
+      rw (laid-out own fits, counts-fit own fits most, in-range, e, chain-shallow book (λ k h. context-field k (omega (arith, contexts-size)) 0 (omega arith)), contexts-size, names-good)
       (by forest (leb m depth_most))
     where
       by : (x y : Bool) → ◌≡◌ {A = Outcome (Unit {0})} (refuse 5 (not x) >> (refuse 6 (not y) >> (refuse 28 false >> accepted tt))) (answer_of x y)

@@ -1,0 +1,14 @@
+use Prim.Native.Nat.{ℕ}
+use mathlib.Core.Path.{sym, ap, ◌∙◌}
+use Rattle.basics.specs.Outcome.{refused}
+use Rattle.leskofar.specs.Exports.{appended}
+use Rattle.book_writer.specs.Writing.{appended_value}
+use Rattle.leskofar.proofs.writer_calls.answer.Goals as goal
+
+pub returns-in-Record : goal.returns-in-Record
+unfolding appended appended_value
+returns-in-Record c = cc
+
+pub returns-in-Refused : goal.returns-in-Refused
+unfolding appended appended_value
+returns-in-Refused c = ap (λ (n : ℕ). appended (refused n)) c.number.ensures ∙ sym (ap appended (ap appended_value c.in-Refused.is))

@@ -1,0 +1,6 @@
+use mathlib.Core.Path.{ap, ◌∙◌}
+use Rattle.leskofar.specs.Exports.{appended}
+use Rattle.leskofar.proofs.writer_calls.leskofar_append_name.Goals as goal
+
+pub returns : goal.returns
+returns c = record { answer = c.answer.ensures ∙ ap appended c.append_name.ensures.answer; book = c.append_name.ensures.buffer'; scratch = c.append_name.ensures.scratch'' }
