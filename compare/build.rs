@@ -1,4 +1,4 @@
-//! Links the library that `rt staticlib leskofar` writes.
+//! Links the library that `scripts/static-library.sh` writes.
 
 fn main() {
     let root = std::env::var("CARGO_MANIFEST_DIR").expect("cargo sets it");

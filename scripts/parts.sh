@@ -1,24 +1,23 @@
 # Sourced: the parts that the gate and its quick form share. Each counts what it ran.
 
-layout() {
-    part 'layout'
-    one 'rt fmt --check' sh -c 'said=$(rt fmt --check 2>&1); echo "$said"; test -z "$said"'
+# The layout of the crates' files is rt's to check.
+documents() {
+    part 'documents'
     one 'the wrong programs that docs/CONTRACTS.md names' scripts/named-edits.sh
 }
 
-# What rt says, without the lines that say nothing new, and with its status.
+# What rt says, without the lines that say nothing new, and with its status. All that it said stays in $log.ci.
 told_by() { # command...
     "$@" >"$log.ci" 2>&1
     status=$?
-    grep -v '^logic\|^library\|^note: no function\|^fn .*: proved\|(unchanged since' "$log.ci"
-    rm -f "$log.ci"
+    grep -v '^logic\|^library\|^statements\|^axioms\|^crate\|^checked\|^empty contracts: 0\|^[a-z]* .*: proved$' "$log.ci"
     return "$status"
 }
 
 # The library is built meanwhile: it takes one core, and these tests the other.
 reference() {
     part 'reference program'
-    rt staticlib leskofar >"$log.library" 2>&1 &
+    scripts/static-library.sh >"$log.library" 2>&1 &
     library_built=$!
     if ! need cargo cargo; then
         echo 'FAILED: no cargo, and it could not be installed'

@@ -6,10 +6,11 @@ cd "$(dirname "$0")/.." || exit 1
 . scripts/counting.sh
 . scripts/parts.sh
 
-layout
+documents
 
-part 'proofs and programs, of what changed and what stands on it'
-one 'rt check' told_by rt check
+# It leaves program script and the library in out/, and tells of the layout too.
+part 'proofs and programs, over what earlier checks kept'
+one 'rt all test' told_by rt all test
 
 part 'must-fail edits of the crates that changed'
 changed=$(scripts/changed-crates.sh)

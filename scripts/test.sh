@@ -6,11 +6,12 @@ cd "$(dirname "$0")/.." || exit 1
 . scripts/counting.sh
 . scripts/parts.sh
 
-layout
+documents
 
 part 'proofs, must-fail edits and programs'
 counted 'rt ci' told_by rt ci
-one 'must-fail edits are refused for a fact' scripts/refused-for-a-fact.sh target/must-fail
+one 'no must-fail edit is bad' scripts/no-bad-edit.sh "$log.ci"
+one 'must-fail edits are refused for a fact' scripts/refused-for-a-fact.sh "$log.ci"
 
 reference
 library

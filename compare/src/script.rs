@@ -1,5 +1,5 @@
-//! Program script, as it was built, against the reference: what it prints for
-//! its standard input.
+//! Program script, as `rt ci` and `rt run` leave it built, against the
+//! reference: what it prints for its standard input.
 
 use crate::made_sessions::own_axiom;
 use crate::made_terms::nests;
@@ -18,6 +18,7 @@ use std::io::Write;
 use std::process::{Command, Stdio};
 
 const ROOT: &str = concat!(env!("CARGO_MANIFEST_DIR"), "/..");
+const PROGRAM: &str = "crates/script/out/script";
 /// The stack that the program is given.
 const STACK_KIB: usize = 2_048;
 const STOPPED: &str = "; stopped";
@@ -60,11 +61,11 @@ fn book_of(input: &[u8]) -> Option<&[u8]> {
 fn program(input: &[u8]) -> Result<Vec<u8>, String> {
     let mut child = Command::new("sh")
         .args(["-c", &format!("ulimit -s {STACK_KIB}; exec \"$0\"")])
-        .arg(format!("{ROOT}/target/bin/script"))
+        .arg(format!("{ROOT}/{PROGRAM}"))
         .stdin(Stdio::piped())
         .stdout(Stdio::piped())
         .spawn()
-        .map_err(|error| format!("target/bin/script: {error}"))?;
+        .map_err(|error| format!("{PROGRAM}: {error}"))?;
     let mut to = child.stdin.take().expect("piped");
     let bytes = input.to_vec();
     // A longer input may find the program gone.
