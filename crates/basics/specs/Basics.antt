@@ -1,5 +1,5 @@
 -- Basics.dfy: SeqToString, Int2String, Comma.
-use Rattle.std.specs.Prelude.{ℕ, zero, suc, ◌+◌, ◌-◌, ◌^◌, ◌/◌, ◌%◌, List, [], ◌∷◌, ◌++◌, map, Bool, true, false, ltb, ℤ, pos, negsuc}
+use Rattle.std.specs.Prelude.{ℕ, zero, suc, ◌+◌, ◌-◌, ◌^◌, ◌/◌, ◌%◌, List, [], ◌∷◌, ◌++◌, map, ltb, ℤ, pos, negsuc}
 use Rattle.basics.specs.Text.{Text, ascii, if◌then◌else◌}
 
 -- Int2StringNoLeadingZero, with fuel: x itself is enough, since x / 10 is smaller

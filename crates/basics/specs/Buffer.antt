@@ -1,5 +1,5 @@
 -- What a call leaves in the buffers that the host lends.
-use Rattle.std.specs.Prelude.{ℕ, List, [], ◌∷◌, Bool, true, false, ltb, length, replicate}
+use Rattle.std.specs.Prelude.{ℕ, List, [], ◌∷◌, ltb, length, replicate}
 use Rattle.basics.specs.Text.{Text, if◌then◌else◌}
 use Rattle.basics.specs.Outcome.{Outcome, refused, accepted}
 

@@ -2,11 +2,11 @@
 use Prim.Native.Nat.{ℕ, zero, suc, ◌+◌, ◌*◌, ◌<◌, ◌≤◌}
 use native.Mathlib.Nat.{mul-le-mul_left, mul-suc}
 use native.Mathlib.Omega.{arith}
-use mathlib.Core.Path.{◌≡◌, refl, sym, ap, ◌∙◌}
+use mathlib.Core.Path.{◌≡◌, refl}
 use mathlib.Core.List.{List, map}
 use lib.ListN.{length, get_or}
 use Rattle.book.specs.Book.{Book, Section, sections, word, offset, size, field}
-use Rattle.book.specs.Laid.{section_at, Holds, Reads}
+use Rattle.book.specs.Laid.{section_at, Holds}
 
 -- the size of each section's records, and its limit: what the code's tables compute to
 abbrev pub sizes : List ℕ

@@ -1,13 +1,13 @@
 -- From a book's bytes to the program that it holds.
-use Rattle.std.specs.Prelude.{ℕ, zero, suc, ◌+◌, ◌*◌, ◌^◌, ◌-◌, List, [], ◌∷◌, ◌++◌, map, Bool, true, false, not, eqb, get_or}
+use Rattle.std.specs.Prelude.{ℕ, zero, suc, ◌+◌, ◌*◌, ◌^◌, List, [], ◌∷◌, ◌++◌, map, Bool, true, false, not, eqb, get_or}
 use Rattle.std.proofs.Math.Option.{Option, none, some}
-use Rattle.basics.specs.Text.{Text, if◌then◌else◌}
+use Rattle.basics.specs.Text.{Text}
 use Rattle.basics.specs.Lists.{up_to}
 use Rattle.basics.specs.Basics.{int64}
 use Rattle.book.specs.SType.{SType, SBool, SInt, SUserType, SConstant}
 use Rattle.book.specs.RExpr.{RExpr, RExprs, RPatterns, Function, Literal, BuiltInOperator, UserDefinedFunction, Boolean, Integer, CustomLiteral, Id, FuncAppl, IfThenElse, LetExpr, QuantifierExpr, []ʳ, ◌∷ʳ◌, []ᵖ, ◌∷ᵖ◌}
 use Rattle.book.specs.Program.{Axiom, Context, Program}
-use Rattle.book.specs.Book.{Book, names, types, constants, functions, axioms, patterns, terms, contexts, size, field, entries, name_text, no_term}
+use Rattle.book.specs.Book.{Book, types, constants, functions, axioms, patterns, terms, contexts, size, field, entries, name_text, no_term}
 
 -- the nine term kinds, in the order of their codes
 pub data Kind : Type 0 where

@@ -1,15 +1,13 @@
 -- The sections in their order, one after the other.
-use Prim.Native.Nat.{ℕ, suc, ◌+◌, ◌*◌, ◌<◌}
-use native.Mathlib.Omega.{arith}
+use Prim.Native.Nat.{ℕ, ◌+◌, ◌*◌, ◌<◌}
 use native.Mathlib.Numerals.{add-one}
-use mathlib.Core.Path.{◌≡◌, refl}
-use mathlib.Core.List.{List, [], ◌∷◌}
+use mathlib.Core.Path.{◌≡◌}
 use mathlib.Core.Bool.{false}
 use lib.Dec.{eqb}
 use lib.ListN.{length, get_or, drop}
 use lib.Seq.{drop-cons}
 use borrow.Author.Tests.{eq-eqb, ne_eqb}
-use Rattle.book.specs.Book.{Book, Section, letters, sections, offset, size}
+use Rattle.book.specs.Book.{Book, letters, sections, offset, size}
 use Rattle.book.specs.Laid.{section_at}
 use Rattle.book.proofs.Sections.{sizes, tabled}
 use Rattle.book_contents.specs.Contents.{laid_from}

@@ -5,7 +5,7 @@ use native.Mathlib.Decide.{ℕ_discrete}
 use native.Mathlib.Omega.{arith}
 use mathlib.Core.Path.{◌≡◌, refl, sym, ap, ◌∙◌}
 use mathlib.Core.Bool.{Bool, true, false, not, ◌&&◌, ◌||◌}
-use mathlib.Core.List.{List, [], ◌∷◌, ◌++◌, map}
+use mathlib.Core.List.{List, [], ◌∷◌, map}
 use lib.Dec.{ltb, eqb}
 use lib.ListN.{length, replicate}
 use borrow.Author.Tests.{ltb-true, eq-eqb, ne_eqb}
@@ -14,7 +14,7 @@ use Rattle.basics.proofs.Bool.{and-true}
 use Rattle.basics.proofs.All.{All, end, more, all_append}
 use Rattle.book.specs.Book.{Book, axioms, terms, contexts, size, field, no_term}
 use Rattle.book.specs.Decode.{Kind, boolean, integer, custom_literal, id, built_in, application, if_then_else, let_expr, quantifier_expr, kind_of}
-use Rattle.book_forest.specs.Forest.{Reference, reference, term_of, entry_reference, range_references, pattern_references, listed_references, kind_references, term_references, axiom_references, context_references, references, all_smaller, no_twice, is_forest}
+use Rattle.book_forest.specs.Forest.{Reference, term_of, entry_reference, range_references, pattern_references, listed_references, kind_references, term_references, axiom_references, context_references, references, all_smaller, no_twice, is_forest}
 use Rattle.book_forest.specs.Marks.{is_marked, set_mark, room, can_mark}
 use Rattle.book_forest.proofs.Stored.{marked-same, marked_other, room-marked, none-marked}
 

@@ -1,7 +1,5 @@
-use Prim.Native.Nat.{◌-◌}
 use native.Mathlib.Omega.{arith}
 use mathlib.Core.Path.{◌∙◌}
-use mathlib.Core.Bool.{true}
 use Rattle.basics.proofs.Loops.{all_none, all_more, all-stop, all_done, all-places}
 use Rattle.book.specs.Book.{letters, sections}
 use Rattle.book_contents.specs.Contents.{count_fits, counts_fit}

@@ -1,6 +1,5 @@
-use Prim.Native.Nat.{◌<◌, ◌-◌}
+use Prim.Native.Nat.{◌<◌}
 use native.Mathlib.Omega.{arith}
-use mathlib.Core.Bool.{true}
 use mathlib.Core.Path.{refl, sym}
 use Rattle.basics.proofs.Loops.{all_none, all_more, all-stop, all_done}
 use Rattle.book.specs.Book.{contexts, size}

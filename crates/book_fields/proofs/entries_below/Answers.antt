@@ -1,8 +1,5 @@
-use Rattle.book_fields.specs.Fields.{entry_below}
 use Rattle.basics.proofs.Loops.{all_none, all_more, all-stop, all_done}
-use mathlib.Core.Bool.{true}
 use native.Mathlib.Omega.{arith}
-use Prim.Native.Nat.{◌-◌}
 use borrow.Author.Rules.{rules}
 use Rattle.std.proofs.lemmas.Bool.{not_from_false, not_from_true}
 use Rattle.book_fields.proofs.entries_below.Goals as goal

@@ -3,7 +3,6 @@ use lib.ListN.{length-set}
 use borrow.Author.Fill.{fill_none, fill_more}
 use mathlib.Core.Path.{refl}
 use native.Mathlib.Omega.{arith}
-use Prim.Native.Nat.{◌-◌}
 use borrow.Author.Rules.{rules}
 use Rattle.book_forest.proofs.clear.Goals as goal
 

@@ -1,7 +1,5 @@
 use Rattle.book_forest.proofs.Marking.{mark-none, mark-more, mark-stop, mark-done}
-use mathlib.Core.Bool.{true}
 use native.Mathlib.Omega.{arith}
-use Prim.Native.Nat.{◌-◌}
 use borrow.Author.Rules.{rules}
 use Rattle.std.proofs.lemmas.Bool.{not_from_false, not_from_true}
 use Rattle.book_forest.proofs.mark_axioms.Goals as goal

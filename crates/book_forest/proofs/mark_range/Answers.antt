@@ -1,8 +1,6 @@
 use Rattle.book_forest.proofs.Marking.{mark-none, mark-more, mark-stop, mark-done}
 use Rattle.book_forest.specs.Forest.{entry_reference, range_references}
-use mathlib.Core.Bool.{true}
 use native.Mathlib.Omega.{arith}
-use Prim.Native.Nat.{◌-◌}
 use borrow.Author.Rules.{rules}
 use Rattle.std.proofs.lemmas.Bool.{not_from_false, not_from_true}
 use Rattle.book_forest.proofs.mark_range.Goals as goal

@@ -1,8 +1,6 @@
-use Prim.Native.Nat.{◌-◌}
 use native.Mathlib.Omega.{arith}
-use mathlib.Core.Bool.{true}
 use Rattle.basics.proofs.Loops.{all_none, all_more, all-stop, all_done}
-use Rattle.book_names.specs.Names.{record_named, section_named}
+use Rattle.book_names.specs.Names.{section_named}
 use borrow.Author.Rules.{rules}
 use Rattle.std.proofs.lemmas.Bool.{not_from_false, not_from_true}
 use Rattle.book_names.proofs.section_named.Goals as goal

@@ -1,7 +1,5 @@
-use Prim.Native.Nat.{◌-◌}
 use native.Mathlib.Omega.{arith}
 use mathlib.Core.Path.{◌∙◌}
-use mathlib.Core.Bool.{true}
 use lib.ListN.{length}
 use Rattle.basics.proofs.Loops.{all_none, all_more, all-stop, all_done, all-places}
 use Rattle.symbols.specs.Symbols.{symbol_letter}

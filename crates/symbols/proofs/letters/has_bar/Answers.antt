@@ -1,7 +1,6 @@
-use Prim.Native.Nat.{◌-◌}
 use native.Mathlib.Omega.{arith}
 use mathlib.Core.Path.{ap, ◌∙◌}
-use mathlib.Core.Bool.{true, not}
+use mathlib.Core.Bool.{not}
 use lib.ListN.{length}
 use Rattle.basics.proofs.Loops.{all_none, all_more, all-stop, all_done, all-places}
 use Rattle.symbols.specs.Symbols.{plain, has_bar}

@@ -1,5 +1,4 @@
 use mathlib.Core.Path.{sym, ◌∙◌}
-use Prim.Native.Nat.{◌-◌}
 use Rattle.symbols.proofs.Walking.{left-first, left-found, left-more, left-none}
 use Rattle.symbols.proofs.words.is_among.Goals as goal
 
