@@ -3,13 +3,11 @@ use Prim.Native.Nat.{ℕ, ◌≤◌}
 use native.Mathlib.Omega.{arith}
 use mathlib.Core.Path.{◌≡◌, refl, sym}
 use mathlib.Core.List.{List}
-use lib.Dec.{ltb}
 use lib.ListN.{length}
 use borrow.Author.Tests.{le-ltb}
-use Rattle.basics.specs.Outcome.{refuse, ◌>>◌}
 use Rattle.basics.specs.Buffer.{scratch_least, scratch_after}
 use Rattle.book.specs.Book.{Book}
-use Rattle.book_test.specs.BookTest.{book_test, ready, book_test_call}
+use Rattle.book_test.specs.BookTest.{ready, book_test_call}
 use Rattle.book_test.specs.Scratch.{book_test_from, least_of_bytes, Scratch}
 use Rattle.book_test.proofs.Answers.{ready-long, zeroed}
 

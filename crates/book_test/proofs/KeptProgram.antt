@@ -9,7 +9,7 @@ use borrow.Author.Tests.{eqb-false}
 use Rattle.basics.specs.Lists.{up_to}
 use Rattle.basics.proofs.Counting.{up_same, up-goes-on}
 use Rattle.book.specs.Book.{Book, axioms, terms, contexts, size, field, no_term}
-use Rattle.book.specs.Decode.{term, literal_at, axiom_term, axiom_of, context_of, program}
+use Rattle.book.specs.Decode.{literal_at, axiom_term, axiom_of, context_of, program}
 use Rattle.book_test.specs.Promise.{Promise}
 use Rattle.book_test.specs.Kept.{Kept}
 use Rattle.book.specs.Extends.{Extends}

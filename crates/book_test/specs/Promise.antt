@@ -1,5 +1,5 @@
 -- The promise: what a book that the test accepts has. Every crate above relies on this, and on nothing else of the test.
-use Rattle.std.specs.Prelude.{ℕ, suc, ◌+◌, ◌<◌, ◌≤◌, ◌≡◌, true, List, length}
+use Rattle.std.specs.Prelude.{ℕ, suc, ◌+◌, ◌<◌, ◌≤◌, ◌≡◌, true, length}
 use Rattle.book.specs.Book.{Book, letters, names, types, constants, functions, axioms, patterns, terms, contexts, lists, size, field, letter, name_text, user_types, no_term, depth_most}
 use Rattle.book.specs.Laid.{Laid}
 use Rattle.book.specs.Program.{depth}

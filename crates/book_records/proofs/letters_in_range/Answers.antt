@@ -1,8 +1,5 @@
-use Prim.Native.Nat.{◌-◌}
 use native.Mathlib.Omega.{arith}
-use mathlib.Core.Bool.{true}
 use Rattle.basics.proofs.Loops.{all_none, all_more, all-stop, all_done}
-use Rattle.book_fields.specs.Fields.{letter_in_range}
 use borrow.Author.Rules.{rules}
 use Rattle.std.proofs.lemmas.Bool.{not_from_false, not_from_true}
 use Rattle.book_records.proofs.letters_in_range.Goals as goal

@@ -1,8 +1,6 @@
-use Rattle.book_terms.specs.Terms.{term_in_range, terms_in_range}
+use Rattle.book_terms.specs.Terms.{terms_in_range}
 use Rattle.basics.proofs.Loops.{all_none, all_more, all-stop, all_done}
-use mathlib.Core.Bool.{true}
 use native.Mathlib.Omega.{arith}
-use Prim.Native.Nat.{◌-◌}
 use borrow.Author.Rules.{rules}
 use Rattle.std.proofs.lemmas.Bool.{not_from_false, not_from_true}
 use Rattle.book_terms.proofs.terms_in_range.Goals as goal

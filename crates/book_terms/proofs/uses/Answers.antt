@@ -1,8 +1,6 @@
-use Rattle.book_terms.specs.Terms.{is_zero, uses}
+use Rattle.book_terms.specs.Terms.{uses}
 use Rattle.basics.proofs.Loops.{all_none, all_more, all-stop, all_done}
-use mathlib.Core.Bool.{true}
 use native.Mathlib.Omega.{arith}
-use Prim.Native.Nat.{◌-◌}
 use borrow.Author.Rules.{rules}
 use Rattle.std.proofs.lemmas.Bool.{not_from_false, not_from_true}
 use Rattle.book_terms.proofs.uses.Goals as goal
