@@ -1,4 +1,5 @@
 -- Numbers of the type i64. A local of that type holds bits. -1 - z always fits, and takes a negative number to one that isn't, and back.
+use Rattle.std.specs.Prelude.{if◌then◌else◌}
 use Prim.Native.Nat.{ℕ, zero, suc, ◌+◌, ◌-◌, ◌^◌, ◌≤◌, ◌<◌}
 use native.Mathlib.Nat.{not-suc-le-zero}
 use native.Mathlib.Numerals.{add-one}
@@ -13,7 +14,7 @@ use mir.Syntax.{w64}
 use mir.Val.{Fits, SFits, to_z, of_z, sel}
 use mir.ValLaws.{to_z-of_z, to_z_pos, to_z-Fits}
 use borrow.Author.Tests.{ltb-true, le-ltb}
-use Rattle.basics.specs.Text.{ascii, if◌then◌else◌}
+use Rattle.basics.specs.Text.{ascii}
 use Rattle.basics.specs.Basics.{nat2_string, int2_string, int64}
 use Rattle.basics.specs.Write.{MOST}
 

@@ -1,6 +1,6 @@
 -- Basics.dfy: SeqToString, Int2String, Comma.
-use Rattle.std.specs.Prelude.{ℕ, zero, suc, ◌+◌, ◌-◌, ◌^◌, ◌/◌, ◌%◌, List, [], ◌∷◌, ◌++◌, map, ltb, ℤ, pos, negsuc}
-use Rattle.basics.specs.Text.{Text, ascii, if◌then◌else◌}
+use Rattle.std.specs.Prelude.{ℕ, zero, suc, ◌+◌, ◌-◌, ◌^◌, ◌/◌, ◌%◌, List, [], ◌∷◌, ◌++◌, map, ltb, ℤ, pos, negsuc, if◌then◌else◌}
+use Rattle.basics.specs.Text.{Text, ascii}
 
 -- Int2StringNoLeadingZero, with fuel: x itself is enough, since x / 10 is smaller
 unfoldable pub int2_string_no_leading_zero : (fuel x : ℕ) → Text

@@ -1,6 +1,5 @@
 -- Sets of numbers as bytes: a bit for each number.
-use Rattle.std.specs.Prelude.{ℕ, ◌+◌, ◌/◌, ◌%◌, Bool, List, [], ◌∷◌, eqb, get_or, set}
-use Rattle.basics.specs.Text.{if◌then◌else◌}
+use Rattle.std.specs.Prelude.{ℕ, ◌+◌, ◌/◌, ◌%◌, Bool, List, [], ◌∷◌, eqb, get_or, set, if◌then◌else◌}
 
 -- what each bit of a byte counts, the lowest first
 abbrev pub powers : List ℕ

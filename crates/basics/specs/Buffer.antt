@@ -1,6 +1,6 @@
 -- What a call leaves in the buffers that the host lends.
-use Rattle.std.specs.Prelude.{ℕ, List, [], ◌∷◌, ltb, length, replicate}
-use Rattle.basics.specs.Text.{Text, if◌then◌else◌}
+use Rattle.std.specs.Prelude.{ℕ, List, [], ◌∷◌, ltb, length, replicate, if◌then◌else◌}
+use Rattle.basics.specs.Text.{Text}
 use Rattle.basics.specs.Outcome.{Outcome, refused, accepted}
 
 -- the text written over the front of a buffer, as far as the buffer goes

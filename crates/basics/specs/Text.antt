@@ -25,12 +25,6 @@ same [] (y ∷ ys) = false
 same (x ∷ xs) [] = false
 same (x ∷ xs) (y ∷ ys) = eqb x y && same xs ys
 
--- Both branches are computed first: a branch that recurses is written by clauses instead.
-infixr 20 if◌then◌else◌
-abbrev pub if◌then◌else◌ {ℓ} : {A : Type ℓ} → Bool → A → A → A
-if true then a else b = a
-if false then a else b = b
-
 -- a text under a flag that says whether it came
 unfoldable pub given : Bool → Text → Option Text
 given false t = none

@@ -1,4 +1,5 @@
 -- Paths of a tree whose parents are smaller than their children, and what two of them share.
+use Rattle.std.specs.Prelude.{if◌then◌else◌}
 use Prim.Native.Nat.{ℕ, zero, suc, ◌-◌, ◌≤◌, ◌<◌}
 use native.Mathlib.Omega.{arith}
 use mathlib.Core.Path.{◌≡◌, refl, sym, ap, ◌∙◌}
@@ -7,7 +8,6 @@ use mathlib.Core.List.{List, [], ◌∷◌}
 use lib.Dec.{eqb}
 use lib.ListN.{length, drop, drop_of_length-le}
 use borrow.Author.Tests.{eqb-true, eqb-false, eq-eqb, ne_eqb}
-use Rattle.basics.specs.Text.{if◌then◌else◌}
 use Rattle.basics.specs.Lists.{member}
 use Rattle.basics.proofs.Bool.{or_left, or_right}
 use Rattle.basics.proofs.All.{All, end, more}

@@ -1,7 +1,7 @@
 -- What a book holds, as data: axioms, literals and contexts by their numbers; and the paths of its tree.
-use Rattle.std.specs.Prelude.{ℕ, zero, suc, ◌-◌, List, [], ◌∷◌, true, length, get_or}
+use Rattle.std.specs.Prelude.{ℕ, zero, suc, ◌-◌, List, [], ◌∷◌, true, length, get_or, if◌then◌else◌}
 use Rattle.std.proofs.Math.Option.{Option, none}
-use Rattle.basics.specs.Text.{Text, if◌then◌else◌}
+use Rattle.basics.specs.Text.{Text}
 use Rattle.basics.specs.Lists.{member}
 use Rattle.book.specs.RExpr.{RExpr, Boolean, Literal}
 

@@ -1,6 +1,5 @@
 -- Refusal 5: a child is smaller than its parent, and no term is referred to twice in the whole book.
-use Rattle.std.specs.Prelude.{ℕ, ◌+◌, List, [], ◌∷◌, ◌++◌, map, Bool, true, not, ◌&&◌, eqb, ltb}
-use Rattle.basics.specs.Text.{if◌then◌else◌}
+use Rattle.std.specs.Prelude.{ℕ, ◌+◌, List, [], ◌∷◌, ◌++◌, map, Bool, true, not, ◌&&◌, eqb, ltb, if◌then◌else◌}
 use Rattle.basics.specs.Lists.{join_below, member}
 use Rattle.book.specs.Book.{Book, axioms, patterns, terms, contexts, lists, size, field, no_term}
 use Rattle.book.specs.Decode.{Kind, boolean, integer, custom_literal, id, built_in, application, if_then_else, let_expr, quantifier_expr, kind_of}

@@ -1,6 +1,5 @@
 -- What the scratch decides: whether it is long enough, and nothing else.
-use Rattle.std.specs.Prelude.{ℕ, ◌≤◌, ◌≡◌, List, ltb, length, replicate}
-use Rattle.basics.specs.Text.{if◌then◌else◌}
+use Rattle.std.specs.Prelude.{ℕ, ◌≤◌, ◌≡◌, List, ltb, length, replicate, if◌then◌else◌}
 use Rattle.basics.specs.Outcome.{refuse, ◌>>◌}
 use Rattle.basics.specs.Buffer.{scratch_least, scratch_after}
 use Rattle.book.specs.Book.{Book, terms}

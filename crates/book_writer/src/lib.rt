@@ -5,13 +5,13 @@ mod appending;
 mod extending;
 mod probe_rows;
 mod probing;
-mod records;
+mod record_calls;
 mod terms;
 
 use book::Refusal;
 pub use extending::{extend, extend_with_equality};
 pub use probing::{record, record_trace_point};
-pub use records::{append_constant, append_name, append_node};
+pub use record_calls::{append_constant, append_name, append_node};
 pub use terms::{TermFields, append_term};
 
 // The answer: the new record's number and the new book's length.

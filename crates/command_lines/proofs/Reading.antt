@@ -1,10 +1,11 @@
 -- The kinds of lines, and what the reader takes a line for.
+use Rattle.std.specs.Prelude.{if◌then◌else◌}
 use Prim.Native.Nat.{◌≤◌}
 use native.Mathlib.Omega.{arith}
 use mathlib.Core.Path.{◌≡◌, refl, sym, ap, ◌∙◌}
 use mathlib.Core.Bool.{Bool, true, false, ◌||◌, false≢true}
 use lib.ListN.{length, take, length-take}
-use Rattle.basics.specs.Text.{Text, ascii, same, if◌then◌else◌}
+use Rattle.basics.specs.Text.{Text, ascii, same}
 use Rattle.basics.specs.Lists.{all}
 use Rattle.basics.proofs.Bool.{and_both, and_assoc}
 use Rattle.basics.proofs.Texts.{same-eq}

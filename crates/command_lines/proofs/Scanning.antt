@@ -1,4 +1,5 @@
 -- The parentheses of a line, byte by byte.
+use Rattle.std.specs.Prelude.{if◌then◌else◌}
 use Prim.Native.Nat.{ℕ, zero, suc, ◌+◌, ◌-◌, ◌≤◌, ◌<◌}
 use native.Mathlib.Omega.{arith}
 use native.Mathlib.Numerals.{add-one}
@@ -7,7 +8,7 @@ use mathlib.Core.Bool.{Bool, true, false}
 use lib.Dec.{eqb}
 use lib.ListN.{get_or}
 use borrow.Author.Tests.{ne_eqb}
-use Rattle.basics.specs.Text.{Text, newline, if◌then◌else◌}
+use Rattle.basics.specs.Text.{Text, newline}
 use Rattle.command_lines.specs.declared.parentheses.Scan.{Scan}
 use Rattle.command_lines.specs.declared.parentheses.Scan.TheVariants.{Outside, Between, Shut, Wrong}
 use Rattle.command_lines.specs.Lines.{line_at}

@@ -1,7 +1,8 @@
 -- The kind of a line, test after test.
+use Rattle.std.specs.Prelude.{if◌then◌else◌}
 use mathlib.Core.Path.{◌≡◌, refl, sym, ◌∙◌}
 use mathlib.Core.Bool.{Bool, true, false}
-use Rattle.basics.specs.Text.{Text, ascii, same, if◌then◌else◌}
+use Rattle.basics.specs.Text.{Text, ascii, same}
 use Rattle.basics.specs.Lists.{all}
 use Rattle.smt_engines.specs.SmtEngines.{CMD_PUSH, CMD_POP, CMD_CHECK_SAT, CMD_GET_MODEL}
 use Rattle.command_lines.specs.declared.kinds.LineKind.{LineKind}

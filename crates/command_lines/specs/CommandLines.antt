@@ -1,6 +1,6 @@
 -- A command of ours, as a line of bytes.
-use Rattle.std.specs.Prelude.{ℕ, zero, suc, Bool, true, false, ◌&&◌, ◌||◌, [], ◌∷◌, eqb, leb, length, take}
-use Rattle.basics.specs.Text.{Text, ascii, newline, space_byte, same, if◌then◌else◌}
+use Rattle.std.specs.Prelude.{ℕ, zero, suc, Bool, true, false, ◌&&◌, ◌||◌, [], ◌∷◌, eqb, leb, length, take, if◌then◌else◌}
+use Rattle.basics.specs.Text.{Text, ascii, newline, space_byte, same}
 use Rattle.basics.specs.Lists.{all}
 use Rattle.smt_engines.specs.SmtEngines.{CMD_PUSH, CMD_POP, CMD_CHECK_SAT, CMD_GET_MODEL}
 use Rattle.smt_engines.specs.Reader.{Kind, pushes, pops, asks, joins}

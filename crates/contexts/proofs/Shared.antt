@@ -1,4 +1,5 @@
 -- The pops of a move, by going up from the larger of the two nodes.
+use Rattle.std.specs.Prelude.{if◌then◌else◌}
 use Prim.Native.Nat.{ℕ, zero, suc, ◌+◌, ◌≤◌, ◌<◌}
 use native.Mathlib.Omega.{arith}
 use mathlib.Core.Path.{◌≡◌, refl, sym, ap}
@@ -6,7 +7,6 @@ use mathlib.Core.Bool.{Bool, true, false}
 use mathlib.Core.List.{List}
 use lib.Dec.{ltb}
 use borrow.Author.Tests.{ne_eqb, ltb-true, ltb-false}
-use Rattle.basics.specs.Text.{if◌then◌else◌}
 use Rattle.basics.specs.Lists.{member}
 use Rattle.basics.proofs.All.{All, end, more}
 use Rattle.book.specs.Book.{Book, contexts, size}

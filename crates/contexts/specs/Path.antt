@@ -1,6 +1,5 @@
 -- What the readers of the tree of contexts ask for, and what they give.
-use Rattle.std.specs.Prelude.{ℕ, ◌+◌, ◌-◌, ◌<◌, ◌≤◌, ◌≡◌, ltb, length, take}
-use Rattle.basics.specs.Text.{if◌then◌else◌}
+use Rattle.std.specs.Prelude.{ℕ, ◌+◌, ◌-◌, ◌<◌, ◌≤◌, ◌≡◌, ltb, length, take, if◌then◌else◌}
 use Rattle.book.specs.Book.{Book, contexts, size, depth_most}
 use Rattle.book.specs.Program.{Program, node_at, path, depth, shared}
 use Rattle.book.specs.Decode.{program}

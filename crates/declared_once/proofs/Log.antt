@@ -1,5 +1,6 @@
 -- What holds of the bodies' sets and of the log of what was sent: each declared symbol of the book was declared once, with its types, and
 -- every assertion came after the declarations of its symbols. Then one more declaration, assertion or axiom's mark.
+use Rattle.std.specs.Prelude.{if◌then◌else◌}
 use Prim.Native.Nat.{ℕ, ◌+◌}
 use native.Mathlib.Omega.{arith}
 use mathlib.Core.Path.{◌≡◌, refl, sym, ap, ◌∙◌, subst}
@@ -7,7 +8,7 @@ use mathlib.Core.Option.{Option, none, some}
 use mathlib.Core.Bool.{Bool, true, false, ◌||◌, or-true, false≢true}
 use mathlib.Core.List.{List, [], ◌∷◌, ◌++◌, append_assoc, append-nil}
 use borrow.Author.Tests.{eqb-true}
-use Rattle.basics.specs.Text.{Text, same, if◌then◌else◌}
+use Rattle.basics.specs.Text.{Text, same}
 use Rattle.basics.proofs.All.{All, end, more, all_append, all-weaken}
 use Rattle.basics.proofs.Texts.{same-eq, same_refl}
 use Rattle.book.specs.RExpr.{RExpr}

@@ -1,10 +1,10 @@
 -- The constants, functions, literals, operators and types that an accepted book's terms name are records of the book.
+use Rattle.std.specs.Prelude.{if◌then◌else◌}
 use Prim.Native.Nat.{ℕ, zero, suc, ◌+◌, ◌<◌}
 use native.Mathlib.Omega.{arith}
 use mathlib.Core.Path.{◌≡◌, refl}
 use mathlib.Core.Bool.{Bool, true, false}
 use mathlib.Core.List.{List, [], ◌∷◌, map}
-use Rattle.basics.specs.Text.{if◌then◌else◌}
 use Rattle.basics.specs.Lists.{member}
 use Rattle.basics.proofs.All.{All, end, more, all_append}
 use Rattle.book.specs.SType.{SConstant}

@@ -1,11 +1,12 @@
 -- From the log to the live levels: what holds of the sets and the log holds at the end of every path and of every question.
+use Rattle.std.specs.Prelude.{if◌then◌else◌}
 use Prim.Native.Nat.{ℕ, ◌+◌, ◌≤◌}
 use native.Mathlib.Omega.{arith}
 use mathlib.Core.Path.{◌≡◌, refl, sym, ap, ◌∙◌, subst}
 use mathlib.Core.Option.{Option, none, some}
 use mathlib.Core.Bool.{Bool, true, false, false≢true}
 use mathlib.Core.List.{List, [], ◌∷◌, ◌++◌, append_assoc, append-nil}
-use Rattle.basics.specs.Text.{Text, if◌then◌else◌}
+use Rattle.basics.specs.Text.{Text}
 use Rattle.basics.proofs.All.{All}
 use Rattle.book.specs.RExpr.{RExpr}
 use Rattle.book.specs.Book.{Book}

@@ -1,5 +1,6 @@
 -- DeclareNewSymbols keeps what holds of the sets and the log, and declares the symbols of its expression, if it has fuel for the axioms that
 -- are not sent. On the bodies' state.
+use Rattle.std.specs.Prelude.{if◌then◌else◌}
 use Prim.Native.Nat.{ℕ, zero, suc, ◌≤◌, ◌<◌}
 use native.Mathlib.Nat.{le_refl, le_trans, not-suc-le-zero, le_of_suc-le-suc, lt_of_lt_of_le}
 use native.Mathlib.Omega.{arith}
@@ -9,7 +10,7 @@ use mathlib.Core.Option.{Option, none, some}
 use mathlib.Core.Bool.{Bool, true, false, ◌||◌, true≢false}
 use mathlib.Core.List.{List, [], ◌∷◌, ◌++◌}
 use lib.ListN.{length, get_or-eq_default}
-use Rattle.basics.specs.Text.{Text, same, if◌then◌else◌}
+use Rattle.basics.specs.Text.{Text, same}
 use Rattle.basics.specs.Lists.{member}
 use Rattle.basics.proofs.All.{All, end, more, all_split, all_head, all-weaken}
 use Rattle.basics.proofs.Bool.{or_left}

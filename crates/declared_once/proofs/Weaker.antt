@@ -1,9 +1,10 @@
 -- A book that is told apart prints apart.
+use Rattle.std.specs.Prelude.{if◌then◌else◌}
 use mathlib.Core.Path.{◌≡◌, refl}
 use mathlib.Core.Bool.{Bool, true, false, not, ◌&&◌, true≢false}
 use mathlib.Core.List.{List, [], ◌∷◌}
 use borrow.Author.Tests.{not-true}
-use Rattle.basics.specs.Text.{same, if◌then◌else◌}
+use Rattle.basics.specs.Text.{same}
 use Rattle.basics.specs.Lists.{all}
 use Rattle.basics.proofs.Bool.{and_both, both-and}
 use Rattle.book.specs.RExpr.{Literal}

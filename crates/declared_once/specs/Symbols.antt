@@ -1,7 +1,7 @@
 -- The symbols of an expression that a solver must know, what a command declares, and when two symbols have one name for a solver.
-use Rattle.std.specs.Prelude.{ℕ, ◌+◌, Bool, true, false, ◌&&◌, List, [], ◌∷◌, ◌++◌}
+use Rattle.std.specs.Prelude.{ℕ, ◌+◌, Bool, true, false, ◌&&◌, List, [], ◌∷◌, ◌++◌, if◌then◌else◌}
 use Rattle.std.proofs.Math.Option.{Option, none, some}
-use Rattle.basics.specs.Text.{Text, ascii, same, if◌then◌else◌}
+use Rattle.basics.specs.Text.{Text, ascii, same}
 use Rattle.basics.specs.Lists.{member}
 use Rattle.symbols.specs.Symbols.{symbol_text, bare}
 use Rattle.book.specs.SType.{STypeDecl, SType, SBool, SInt, SUserType, SConstant}

@@ -1,6 +1,6 @@
 -- The hypotheses: the records of a book are told apart by what they print, one test over all of them, used or not.
-use Rattle.std.specs.Prelude.{ℕ, Bool, true, false, not, ◌&&◌, List, [], ◌∷◌, ◌++◌, map, eqb}
-use Rattle.basics.specs.Text.{Text, same, if◌then◌else◌}
+use Rattle.std.specs.Prelude.{ℕ, Bool, true, false, not, ◌&&◌, List, [], ◌∷◌, ◌++◌, map, eqb, if◌then◌else◌}
+use Rattle.basics.specs.Text.{Text, same}
 use Rattle.basics.specs.Lists.{all, join_below}
 use Rattle.book.specs.SType.{STypeDecl, SType, SBool, SInt, SUserType}
 use Rattle.book.specs.RExpr.{Literal, is_tag}

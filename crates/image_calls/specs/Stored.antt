@@ -1,6 +1,5 @@
 -- The calls on images: what is stored, and what a call returns and leaves.
-use Rattle.std.specs.Prelude.{ℕ, ◌≡◌, Bool, List, eqb, length}
-use Rattle.basics.specs.Text.{if◌then◌else◌}
+use Rattle.std.specs.Prelude.{ℕ, ◌≡◌, Bool, List, eqb, length, if◌then◌else◌}
 use Rattle.basics.specs.Outcome.{accepted}
 use Rattle.solvers.specs.declared.Answer.{Answer}
 use Rattle.solvers.specs.declared.Called.{Called}

@@ -1,7 +1,6 @@
 -- How an outcome is told to C, and what C's flags mean.
-use Rattle.std.specs.Prelude.{ℕ, Bool, not, List, eqb, length}
+use Rattle.std.specs.Prelude.{ℕ, Bool, not, List, eqb, length, if◌then◌else◌}
 use Rattle.std.proofs.Math.Option.{Option, none, some}
-use Rattle.basics.specs.Text.{if◌then◌else◌}
 use Rattle.basics.specs.Outcome.{Outcome, refused, accepted}
 use Rattle.solvers.specs.Left.{Values, written, proved, unproved}
 use Rattle.solvers.specs.Image.{image_size}

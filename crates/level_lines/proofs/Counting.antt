@@ -1,4 +1,5 @@
 -- Lines that are counted, one after the other.
+use Rattle.std.specs.Prelude.{if◌then◌else◌}
 use Prim.Native.Nat.{ℕ, ◌+◌, ◌-◌, ◌≤◌, ◌<◌}
 use native.Mathlib.Omega.{arith}
 use mathlib.Core.Path.{◌≡◌, sym, ◌∙◌}
@@ -7,7 +8,7 @@ use mathlib.Core.List.{List}
 use lib.Dec.{eqb}
 use lib.ListN.{length, get_or}
 use borrow.Author.Tests.{eq-eqb, ne_eqb}
-use Rattle.basics.specs.Text.{Text, same, if◌then◌else◌}
+use Rattle.basics.specs.Text.{Text, same}
 use Rattle.basics.specs.Lists.{all}
 use Rattle.command_lines.specs.Lines.{line_at}
 use Rattle.level_lines.specs.AsOften.{times_in, even_in, as_often}

@@ -1,6 +1,6 @@
 -- Levels that hold the same lines, each as often, in any order.
-use Rattle.std.specs.Prelude.{ℕ, ◌+◌, Bool, false, ◌&&◌, List, [], ◌∷◌, eqb, length}
-use Rattle.basics.specs.Text.{Text, same, if◌then◌else◌}
+use Rattle.std.specs.Prelude.{ℕ, ◌+◌, Bool, false, ◌&&◌, List, [], ◌∷◌, eqb, length, if◌then◌else◌}
+use Rattle.basics.specs.Text.{Text, same}
 use Rattle.basics.specs.Lists.{all}
 use Rattle.smt_engines.specs.Reader.{Stack, first, over}
 

@@ -1,7 +1,7 @@
 -- The levels of live lines that are named by their starts.
-use Rattle.std.specs.Prelude.{ℕ, zero, suc, ◌≤◌, Bool, true, false, ◌&&◌, List, [], ◌∷◌, length, get_or}
+use Rattle.std.specs.Prelude.{ℕ, zero, suc, ◌≤◌, Bool, true, false, ◌&&◌, List, [], ◌∷◌, length, get_or, if◌then◌else◌}
 use Rattle.std.proofs.Math.Seq.{slice}
-use Rattle.basics.specs.Text.{Text, same, if◌then◌else◌}
+use Rattle.basics.specs.Text.{Text, same}
 use Rattle.smt_engines.specs.Reader.{Stack, first, over, join}
 use Rattle.command_lines.specs.Lines.{line_at}
 use Rattle.live_lines.specs.LiveLines.{lines_at, push_at}

@@ -1,11 +1,12 @@
 -- Variables, literals, numbers and words.
+use Rattle.std.specs.Prelude.{if◌then◌else◌}
 use Prim.Native.Nat.{ℕ, zero, suc, ◌+◌, ◌*◌, ◌^◌, ◌<◌}
 use mathlib.Core.Path.{◌≡◌, refl, ◌∙◌}
 use mathlib.Core.List.{List, ◌++◌}
 use mathlib.Core.Bool.{not}
 use lib.Dec.{eqb}
 use borrow.Author.Tests.{ne_eqb}
-use Rattle.basics.specs.Text.{Text, ascii, if◌then◌else◌}
+use Rattle.basics.specs.Text.{Text, ascii}
 use Rattle.basics.specs.Basics.{int2_string, int64}
 use Rattle.basics.specs.Write.{MOST, WroteAt}
 use Rattle.basics.proofs.Places.{at_none}

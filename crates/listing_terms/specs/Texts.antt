@@ -1,6 +1,6 @@
 -- The texts of a book's terms, by their numbers.
-use Rattle.std.specs.Prelude.{ℕ, zero, suc, ◌+◌, ◌*◌, ◌^◌, [], ◌++◌, map, Bool, not, eqb, replicate}
-use Rattle.basics.specs.Text.{Text, ascii, if◌then◌else◌}
+use Rattle.std.specs.Prelude.{ℕ, zero, suc, ◌+◌, ◌*◌, ◌^◌, [], ◌++◌, map, Bool, not, eqb, replicate, if◌then◌else◌}
+use Rattle.basics.specs.Text.{Text, ascii}
 use Rattle.basics.specs.Basics.{int2_string, int64}
 use Rattle.book.specs.Book.{Book, functions, terms, field, entries, name_text}
 use Rattle.book.specs.Decode.{constant_of, args_of, pattern_of, to_rpatterns, term}

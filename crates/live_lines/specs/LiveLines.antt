@@ -1,6 +1,6 @@
 -- The live lines of a script, in place: where each of them starts, pushes and joined lines in order.
-use Rattle.std.specs.Prelude.{ℕ, zero, suc, ◌*◌, ◌≤◌, ◌≡◌, Bool, true, false, List, [], map, length, get_or, take}
-use Rattle.basics.specs.Text.{Text, same, if◌then◌else◌}
+use Rattle.std.specs.Prelude.{ℕ, zero, suc, ◌*◌, ◌≤◌, ◌≡◌, Bool, true, false, List, [], map, length, get_or, take, if◌then◌else◌}
+use Rattle.basics.specs.Text.{Text, same}
 use Rattle.basics.specs.Lists.{all}
 use Rattle.smt_engines.specs.SmtEngines.{CMD_PUSH}
 use Rattle.smt_engines.specs.Reader.{Kind, pushes, pops, asks, joins, kind, Stack, first, live, hear, hear_all}

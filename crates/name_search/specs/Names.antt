@@ -1,7 +1,7 @@
 -- The first name with a text: the one with the lowest number, whether or not a record uses it.
-use Rattle.std.specs.Prelude.{ℕ, suc, List, [], ◌∷◌, map}
+use Rattle.std.specs.Prelude.{ℕ, suc, List, [], ◌∷◌, map, if◌then◌else◌}
 use Rattle.std.proofs.Math.Option.{Option, none, some}
-use Rattle.basics.specs.Text.{Text, same, if◌then◌else◌}
+use Rattle.basics.specs.Text.{Text, same}
 use Rattle.basics.specs.Lists.{up_to}
 use Rattle.book.specs.Book.{Book, names, size, name_text}
 

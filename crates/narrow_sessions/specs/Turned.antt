@@ -1,6 +1,5 @@
 -- What the code of a turn returns and leaves, against the definitions.
-use Rattle.std.specs.Prelude.{ℕ, ◌≡◌, not, List, eqb, ltb, length}
-use Rattle.basics.specs.Text.{if◌then◌else◌}
+use Rattle.std.specs.Prelude.{ℕ, ◌≡◌, not, List, eqb, ltb, length, if◌then◌else◌}
 use Rattle.basics.specs.Outcome.{Outcome, refused, accepted, refuse, ◌>>◌}
 use Rattle.book.specs.Book.{Book}
 use Rattle.book.specs.Program.{depth}

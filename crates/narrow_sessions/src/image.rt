@@ -4,7 +4,7 @@ ghost use Rattle.solvers.specs.Image.{head_size};
 ghost use Rattle.solvers.specs.Narrow.{narrow_size, no_narrow, is_narrow_image, read_narrow, write_narrow};
 ghost use Rattle.narrow_sessions.specs.Turned.{for_room};
 
-use super::levels::no_levels;
+use super::level_turns::no_levels;
 use basics::{put_all, put_at};
 use images::{
     GOAL_AT, LEVELS_AT, NO_GOAL, NO_NODE, NODE_AT, OWED_AT, is_kind, owed_of, put_head, word,

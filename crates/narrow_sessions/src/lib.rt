@@ -2,7 +2,7 @@
 // The narrow kind of a session: its image, and its turns to the wide kind and back, by value and on images.
 mod image;
 mod image_turns;
-mod levels;
+mod level_turns;
 mod turning;
 
 pub use image::{NARROW_IMAGE, load_narrow, save_narrow};

@@ -9,7 +9,7 @@ ghost use Rattle.solvers.specs.Narrow.{narrow_depth, wide_of, narrow_of, no_narr
 ghost use Rattle.narrow_sessions.specs.Turned.{widened_in, narrowed_in, Given, TurnReturned};
 
 use super::image::no_narrow;
-use super::levels::{narrow_levels, wide_levels};
+use super::level_turns::{narrow_levels, wide_levels};
 use book::Refusal;
 use book_test::{Tested, book_test};
 use engine::depth_of;

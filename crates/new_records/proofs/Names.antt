@@ -1,4 +1,5 @@
 -- Where a text stands among the names of a book and the new ones behind them.
+use Rattle.std.specs.Prelude.{if◌then◌else◌}
 use Prim.Native.Nat.{ℕ, ◌+◌, ◌≤◌, ◌<◌}
 use native.Mathlib.Omega.{arith}
 use mathlib.Core.Path.{◌≡◌, refl, sym, ap, ◌∙◌}
@@ -6,7 +7,7 @@ use mathlib.Core.Bool.{Bool, true, false, ◌&&◌}
 use mathlib.Core.List.{List, [], ◌++◌, append-nil}
 use mathlib.Core.Option.{Option, none, some}
 use lib.ListN.{length, length-append}
-use Rattle.basics.specs.Text.{Text, same, if◌then◌else◌, given}
+use Rattle.basics.specs.Text.{Text, same, given}
 use Rattle.book.specs.Book.{Book, names, size}
 use Rattle.name_search.specs.Names.{later, position, texts, first_name, number_or}
 use Rattle.name_search.proofs.Searching.{or_later, position-append, texts-length, number-found, number-none}

@@ -1,7 +1,6 @@
 -- The test of a list of nodes: whether a fresh session could move to each of them, or which is the first that it could not.
-use Rattle.std.specs.Prelude.{ℕ, suc, Bool, not, List, [], ◌∷◌, leb, ltb, length}
+use Rattle.std.specs.Prelude.{ℕ, suc, Bool, not, List, [], ◌∷◌, leb, ltb, length, if◌then◌else◌}
 use Rattle.std.proofs.Math.Option.{Option, none, some, map}
-use Rattle.basics.specs.Text.{if◌then◌else◌}
 use Rattle.basics.specs.Lists.{all}
 use Rattle.basics.specs.Outcome.{Outcome, refused, accepted, refuse, ◌>>◌}
 use Rattle.basics.specs.Buffer.{scratch_after}

@@ -1,4 +1,5 @@
 -- What stands before each part of a row.
+use Rattle.std.specs.Prelude.{if◌then◌else◌}
 use Prim.Native.Nat.{ℕ, zero, suc, ◌+◌, ◌-◌, ◌≤◌, ◌<◌, min}
 use native.Mathlib.Omega.{arith}
 use mathlib.Core.Path.{◌≡◌, refl, sym, ap, ◌∙◌}
@@ -7,7 +8,7 @@ use mathlib.Core.Bool.{Bool, true, false, ◌&&◌}
 use lib.Dec.{eqb}
 use lib.ListN.{length, take, drop, replicate}
 use borrow.Author.Tests.{eqb-true, eq-eqb}
-use Rattle.basics.specs.Text.{Text, ascii, newline, space_byte, if◌then◌else◌}
+use Rattle.basics.specs.Text.{Text, ascii, newline, space_byte}
 use Rattle.basics.specs.Write.{MOST, Wrote, WroteRepeat}
 use Rattle.basics.proofs.Bool.{and_both}
 use Rattle.basics.proofs.Laws.{joined, wrote_then, wrote_none}

@@ -1,4 +1,5 @@
 -- A state that stores levels and one that stores sets and copies agree, and each method keeps that.
+use Rattle.std.specs.Prelude.{if◌then◌else◌}
 use Prim.Native.Nat.{ℕ, zero, suc, ◌+◌, ◌<◌, ◌≤◌}
 use native.Mathlib.Omega.{arith}
 use native.Mathlib.Nat.{le_refl, not-suc-le-zero}
@@ -9,7 +10,7 @@ use lib.Dec.{eqb}
 use lib.ListN.{length, drop, length-map, length-drop, length-replicate}
 use lib.Seq.{get_or-drop}
 use borrow.Author.Tests.{ne_eqb, eq-eqb, eqb-true, eqb-false}
-use Rattle.basics.specs.Text.{Text, same, if◌then◌else◌}
+use Rattle.basics.specs.Text.{Text, same}
 use Rattle.basics.proofs.All.{All}
 use Rattle.basics.proofs.Texts.{same-eq}
 use Rattle.book.specs.RExpr.{Literal}

@@ -1,4 +1,5 @@
 -- Lists of levels: what joining a place and forgetting a level do to the places, the names and the count.
+use Rattle.std.specs.Prelude.{if◌then◌else◌}
 use Prim.Native.Nat.{ℕ, zero, suc, ◌+◌, ◌<◌, ◌≤◌}
 use native.Mathlib.Nat.{zero-add, suc-add, le_of_suc-le-suc, not-suc-le-zero}
 use native.Mathlib.Omega.{arith}
@@ -10,7 +11,7 @@ use lib.Dec.{eqb, leb, leb-zero, eqb-zero-suc, eqb-suc-zero, eqb-suc-suc}
 use lib.ListN.{length, get_or, drop, replicate}
 use lib.Seq.{get_or-drop}
 use borrow.Author.Tests.{le-leb, lt-leb, leb-false}
-use Rattle.basics.specs.Text.{Text, same, if◌then◌else◌}
+use Rattle.basics.specs.Text.{Text, same}
 use Rattle.basics.proofs.All.{All, end, more}
 use Rattle.basics.proofs.Bool.{or_left, or_right}
 use Rattle.basics.proofs.Texts.{same_refl}

@@ -1,4 +1,5 @@
 -- Levels: what a declaring step may do to them, and that leaving the level undoes it.
+use Rattle.std.specs.Prelude.{if◌then◌else◌}
 use Prim.Native.Nat.{ℕ, zero, suc, ◌≤◌, ◌<◌}
 use native.Mathlib.Omega.{arith}
 use mathlib.Core.Path.{◌≡◌, refl, ap, subst}
@@ -7,7 +8,6 @@ use mathlib.Core.Bool.{Bool, true, false}
 use lib.Dec.{leb}
 use lib.ListN.{length, replicate}
 use borrow.Author.Tests.{le-leb, lt-leb}
-use Rattle.basics.specs.Text.{if◌then◌else◌}
 use Rattle.basics.proofs.All.{All, end, more}
 use Rattle.rsolver.specs.LevelState.{join_at, forget}
 

@@ -1,4 +1,5 @@
 -- Sets as lists: what stands in a set with one element more, and that nothing stands twice.
+use Rattle.std.specs.Prelude.{if◌then◌else◌}
 use Prim.Native.Nat.{suc}
 use mathlib.Core.Path.{◌≡◌, refl, ap}
 use mathlib.Core.Bool.{Bool, true, false, ◌||◌, false≢true}
@@ -6,7 +7,6 @@ use mathlib.Core.Logic.{◌⊎◌, inl, inr}
 use mathlib.Core.List.{List, [], ◌∷◌}
 use lib.ListN.{length}
 use borrow.Author.Tests.{eqb-true, eq-eqb}
-use Rattle.basics.specs.Text.{if◌then◌else◌}
 use Rattle.rsolver.specs.Methods.{Marker, type, constant, function, axiom'}
 use Rattle.rsolver.specs.SolverState.{same_marker, is_in, with'}
 

@@ -1,4 +1,5 @@
 -- Levels in which no place behind a program's literals is marked: more literals change no name that they declare.
+use Rattle.std.specs.Prelude.{if◌then◌else◌}
 use Prim.Native.Nat.{ℕ, zero, suc, ◌+◌, ◌<◌, ◌≤◌}
 use native.Mathlib.Omega.{arith}
 use native.Mathlib.Decide.{dec_lt}
@@ -9,7 +10,7 @@ use mathlib.Core.List.{List, [], ◌∷◌, ◌++◌}
 use lib.Dec.{eqb, leb}
 use lib.ListN.{length, get_or, drop, get_or-eq_default}
 use lib.Seq.{get_or-drop}
-use Rattle.basics.specs.Text.{Text, if◌then◌else◌}
+use Rattle.basics.specs.Text.{Text}
 use Rattle.book.specs.RExpr.{Literal}
 use Rattle.book.specs.Program.{Program}
 use Rattle.rsolver.specs.Methods.{Marker}

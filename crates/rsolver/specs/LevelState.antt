@@ -1,9 +1,9 @@
 -- The solver state as the session stores it: for each record the level where it was declared, 0 for not declared, in one list with a
 -- fixed place for each record. A literal's name is declared at its term. The stack holds the memos alone, the top first.
-use Rattle.std.specs.Prelude.{ℕ, zero, suc, ◌+◌, Bool, true, false, not, ◌&&◌, ◌||◌, eqb, leb, length, get_or, drop, replicate}
+use Rattle.std.specs.Prelude.{ℕ, zero, suc, ◌+◌, Bool, true, false, not, ◌&&◌, ◌||◌, eqb, leb, length, get_or, drop, replicate, if◌then◌else◌}
 use mathlib.Core.List.{List, [], ◌∷◌, ◌++◌, tail}
 use Rattle.std.proofs.Math.Option.{Option, none, some}
-use Rattle.basics.specs.Text.{Text, same, if◌then◌else◌}
+use Rattle.basics.specs.Text.{Text, same}
 use Rattle.book.specs.Book.{types, constants, functions, axioms, terms}
 use Rattle.book.specs.RExpr.{Literal}
 use Rattle.book.specs.Program.{Program}

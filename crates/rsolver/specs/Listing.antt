@@ -1,6 +1,6 @@
 -- RSolver.dfy: RExpr.ToString, RContextNode.Print and PrintProofObligation, and the call that prints what is to be proved. A name is raw.
-use Rattle.std.specs.Prelude.{ℕ, List, [], ◌∷◌, ◌++◌, Bool, ◌||◌, leb, ltb, length}
-use Rattle.basics.specs.Text.{Text, ascii, newline, if◌then◌else◌}
+use Rattle.std.specs.Prelude.{ℕ, List, [], ◌∷◌, ◌++◌, Bool, ◌||◌, leb, ltb, length, if◌then◌else◌}
+use Rattle.basics.specs.Text.{Text, ascii, newline}
 use Rattle.basics.specs.Basics.{int2_string, comma, seq_to_string}
 use Rattle.basics.specs.Outcome.{Outcome, refuse, ◌>>◌}
 use Rattle.book.specs.Book.{Book, terms, contexts, size}

@@ -1,6 +1,6 @@
 -- Solvers.dfy: SolverState as the bodies have it, with sets of markers and names, and copies of both in the stack's items.
-use Rattle.std.specs.Prelude.{ℕ, suc, ◌+◌, ◌≡◌, Bool, true, false, ◌||◌, List, [], ◌∷◌, ◌++◌, eqb, length}
-use Rattle.basics.specs.Text.{Text, same, if◌then◌else◌}
+use Rattle.std.specs.Prelude.{ℕ, suc, ◌+◌, ◌≡◌, Bool, true, false, ◌||◌, List, [], ◌∷◌, ◌++◌, eqb, length, if◌then◌else◌}
+use Rattle.basics.specs.Text.{Text, same}
 use Rattle.smt_engines.specs.Command.{Command, Push, Pop, script}
 use Rattle.smt_engines.specs.Reader.{Stack, live, read, height}
 use Rattle.rsolver.specs.Step.{Step}

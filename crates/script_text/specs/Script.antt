@@ -1,6 +1,6 @@
 -- PROGRAM SCRIPT: what it prints for its standard input.
-use Rattle.std.specs.Prelude.{ℕ, zero, suc, ◌+◌, ◌≡◌, List, [], ◌∷◌, ◌++◌, Bool, true, false, ◌&&◌, ◌||◌, eqb, ltb, length, take, drop, replicate}
-use Rattle.basics.specs.Text.{Text, ascii, newline, if◌then◌else◌}
+use Rattle.std.specs.Prelude.{ℕ, zero, suc, ◌+◌, ◌≡◌, List, [], ◌∷◌, ◌++◌, Bool, true, false, ◌&&◌, ◌||◌, eqb, ltb, length, take, drop, replicate, if◌then◌else◌}
+use Rattle.basics.specs.Text.{Text, ascii, newline}
 use Rattle.basics.specs.Basics.{nat2_string}
 use Rattle.basics.specs.Buffer.{scratch_least}
 use Rattle.basics.specs.Outcome.{Outcome, refused, accepted}

@@ -1,8 +1,8 @@
 -- What the code of a turn reads, and leaves in its buffers and in the session, against the definition.
-use Rattle.std.specs.Prelude.{ℕ, ◌+◌, ◌≤◌, ◌≡◌, Bool, true, false, List, ◌++◌, length, take}
+use Rattle.std.specs.Prelude.{ℕ, ◌+◌, ◌≤◌, ◌≡◌, Bool, true, false, List, ◌++◌, length, take, if◌then◌else◌}
 use Rattle.basics.specs.Outcome.{Outcome, refused, accepted}
 use Rattle.basics.specs.Buffer.{scratch_least}
-use Rattle.basics.specs.Text.{Text, if◌then◌else◌}
+use Rattle.basics.specs.Text.{Text}
 use Rattle.book.specs.Book.{Book}
 use Rattle.solvers.specs.declared.Session.{Session}
 use Rattle.solvers.specs.Left.{Values, session_after}

@@ -1,4 +1,5 @@
 -- Levels that are left: one after the other by the code, and several at once.
+use Rattle.std.specs.Prelude.{if◌then◌else◌}
 use Prim.Native.Nat.{ℕ, zero, suc, ◌+◌, ◌≤◌, ◌<◌}
 use native.Mathlib.Omega.{arith}
 use native.Mathlib.Numerals.{add-one}
@@ -10,7 +11,6 @@ use lib.Dec.{leb}
 use lib.ListN.{length, get_or, set, take, drop, drop_of_length-le}
 use lib.Seq.{take_all}
 use borrow.Author.Tests.{le-leb, lt-leb}
-use Rattle.basics.specs.Text.{if◌then◌else◌}
 use Rattle.basics.proofs.All.{end, more}
 use Rattle.rsolver.specs.LevelState.{forget}
 use Rattle.rsolver.proofs.Levels.{Within}

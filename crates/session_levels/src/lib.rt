@@ -1,7 +1,7 @@
 #![tactic(auto)]
 // The levels that a session stores: for each record the level where it was declared, 0 for not declared.
-ghost use Rattle.std.specs.Prelude.{◌≡◌, ◌+◌, leb, length};
-ghost use Rattle.basics.specs.Text.{same, if◌then◌else◌};
+ghost use Rattle.std.specs.Prelude.{◌≡◌, ◌+◌, leb, length, if◌then◌else◌};
+ghost use Rattle.basics.specs.Text.{same};
 ghost use Rattle.rsolver.specs.LevelState.{level_count, no_levels, forget};
 
 use book::format::*;

@@ -1,10 +1,11 @@
 -- The parts of each row.
+use Rattle.std.specs.Prelude.{if◌then◌else◌}
 use Prim.Native.Nat.{ℕ, zero, suc, ◌+◌, ◌-◌, ◌*◌, ◌/◌, ◌%◌, ◌≤◌, ◌<◌}
 use native.Mathlib.Omega.{arith}
 use mathlib.Core.Path.{◌≡◌, refl, sym, ap, ◌∙◌, subst}
 use mathlib.Core.List.{◌∷◌}
 use borrow.Author.Tests.{eq-eqb, ne_eqb}
-use Rattle.basics.specs.Text.{ascii, if◌then◌else◌}
+use Rattle.basics.specs.Text.{ascii}
 use Rattle.book.specs.Book.{Book, constants, functions, patterns, terms, lists, field}
 use Rattle.book.specs.Decode.{constant_of, function_of, to_rpatterns}
 use Rattle.book.specs.Decode as decode

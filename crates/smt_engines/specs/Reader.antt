@@ -1,6 +1,6 @@
 -- The assertion stack of SMT-LIB 2.6 (it stands in for SolverEngine.CommandStacks), as far as a session's text uses it: a text, cut into lines, read on a stack of levels.
-use Rattle.std.specs.Prelude.{ℕ, suc, Bool, true, false, ◌||◌, List, [], ◌∷◌, ◌++◌, map, eqb}
-use Rattle.basics.specs.Text.{Text, ascii, newline, same, if◌then◌else◌}
+use Rattle.std.specs.Prelude.{ℕ, suc, Bool, true, false, ◌||◌, List, [], ◌∷◌, ◌++◌, map, eqb, if◌then◌else◌}
+use Rattle.basics.specs.Text.{Text, ascii, newline, same}
 use Rattle.smt_engines.specs.Command.{Command, command_to_string}
 
 -- the lines of a text; what stands behind the last line end, if anything, is a line too

@@ -1,10 +1,11 @@
 -- What is printed from names without a line end has none.
+use Rattle.std.specs.Prelude.{if◌then◌else◌}
 use Prim.Native.Nat.{ℕ, suc}
 use mathlib.Core.Path.{refl}
 use mathlib.Core.List.{List, [], ◌∷◌, ◌++◌}
 use mathlib.Core.Bool.{Bool, true, false}
 use lib.IntN.{ℤ, pos, negsuc}
-use Rattle.basics.specs.Text.{Text, ascii, if◌then◌else◌}
+use Rattle.basics.specs.Text.{Text, ascii}
 use Rattle.basics.specs.Basics.{nat2_string}
 use Rattle.symbols.specs.Symbols.{is_symbol, quoted, symbol_text}
 use Rattle.basics.proofs.All.{All, end, more}

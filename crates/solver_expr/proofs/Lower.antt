@@ -1,4 +1,5 @@
 -- The S-expression of a term, by its kind.
+use Rattle.std.specs.Prelude.{if◌then◌else◌}
 use Prim.Native.Nat.{ℕ, zero, suc, ◌+◌, ◌<◌}
 use native.Mathlib.Omega.{arith}
 use mathlib.Core.Path.{◌≡◌, refl, sym, ap, ◌∙◌, subst}
@@ -7,7 +8,7 @@ use mathlib.Core.Bool.{Bool, true, false, not, ◌&&◌}
 use lib.Dec.{eqb}
 use lib.ListN.{length}
 use borrow.Author.Tests.{eqb-true, eq-eqb}
-use Rattle.basics.specs.Text.{Text, ascii, if◌then◌else◌}
+use Rattle.basics.specs.Text.{Text, ascii}
 use Rattle.basics.proofs.Bool.{and_both}
 use Rattle.book.specs.Book.{Book, terms, size, field, entries}
 use Rattle.book.specs.RExpr.{RExpr}

@@ -1,11 +1,12 @@
 -- What the builders make, and the values of lowered terms.
+use Rattle.std.specs.Prelude.{if◌then◌else◌}
 use Prim.Native.Nat.{ℕ, zero, suc, ◌+◌, ◌-◌, ◌*◌, ◌^◌, ◌≤◌, ◌<◌}
 use native.Mathlib.Omega.{arith}
 use mathlib.Core.Path.{◌≡◌, refl, sym, ap, ◌∙◌}
 use mathlib.Core.Bool.{Bool, true, false, not}
 use lib.Dec.{eqb}
 use borrow.Author.Tests.{lt-ltb, le-ltb}
-use Rattle.basics.specs.Text.{ascii, same, if◌then◌else◌}
+use Rattle.basics.specs.Text.{ascii, same}
 use Rattle.basics.specs.Basics.{int64}
 use Rattle.basics.specs.Write.{MOST}
 use Rattle.book.specs.Book.{Book, types, constants, functions, terms, size, field, name_text}

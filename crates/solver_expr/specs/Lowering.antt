@@ -1,6 +1,6 @@
 -- RSolver.dfy, the first part: RExpr.ToSExpr. literalMapper is one number, the one that `%tag` prints.
-use Rattle.std.specs.Prelude.{ℕ, List, [], ◌∷◌, ◌++◌, Bool, true, false}
-use Rattle.basics.specs.Text.{Text, ascii, same, if◌then◌else◌}
+use Rattle.std.specs.Prelude.{ℕ, List, [], ◌∷◌, ◌++◌, Bool, true, false, if◌then◌else◌}
+use Rattle.basics.specs.Text.{Text, ascii, same}
 use Rattle.basics.specs.Basics.{nat2_string}
 use Rattle.symbols.specs.Symbols.{symbol_text}
 use Rattle.book.specs.SType.{SConstant}

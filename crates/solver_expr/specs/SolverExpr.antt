@@ -1,6 +1,6 @@
 -- SolverExpr.dfy: S-expressions, how they are printed, and their builders.
-use Rattle.std.specs.Prelude.{ℕ, suc, ◌+◌, List, [], ◌∷◌, ◌++◌, Bool, true, false, ℤ, pos, negsuc, replicate}
-use Rattle.basics.specs.Text.{Text, ascii, newline, space_byte, if◌then◌else◌}
+use Rattle.std.specs.Prelude.{ℕ, suc, ◌+◌, List, [], ◌∷◌, ◌++◌, Bool, true, false, ℤ, pos, negsuc, replicate, if◌then◌else◌}
+use Rattle.basics.specs.Text.{Text, ascii, newline, space_byte}
 use Rattle.basics.specs.Basics.{nat2_string}
 use Rattle.symbols.specs.Symbols.{symbol_text}
 use Rattle.book.specs.SType.{SType, SBool, SInt, SUserType, SConstant}

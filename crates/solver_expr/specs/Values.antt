@@ -1,6 +1,6 @@
 -- What the code's S-expressions mean. There is no heap: a value says where in the book its text and its parts stand.
-use Rattle.std.specs.Prelude.{ℕ, ◌+◌, ◌<◌, ◌≡◌, ◌∷◌, map, Bool, false, not, ◌&&◌, ℤ, eqb}
-use Rattle.basics.specs.Text.{Text, ascii, if◌then◌else◌}
+use Rattle.std.specs.Prelude.{ℕ, ◌+◌, ◌<◌, ◌≡◌, ◌∷◌, map, Bool, false, not, ◌&&◌, ℤ, eqb, if◌then◌else◌}
+use Rattle.basics.specs.Text.{Text, ascii}
 use Rattle.basics.specs.Basics.{nat2_string}
 use Rattle.symbols.specs.Symbols.{symbol_text}
 use Rattle.book.specs.Book.{Book, Section, names, types, constants, functions, patterns, terms, size, field, entries, name_text, user_types}

@@ -1,4 +1,5 @@
 -- `shared` is what demand 3 says: the depth of the deepest node that both paths have.
+use Rattle.std.specs.Prelude.{if◌then◌else◌}
 use Prim.Native.Nat.{ℕ, zero, suc, ◌≤◌}
 use mathlib.Core.Bool.{Bool, true, false, ◌||◌, true≢false}
 use mathlib.Core.Logic.{◌⊎◌, inl, inr}
@@ -8,7 +9,6 @@ use native.Mathlib.Omega.{arith}
 use lib.Dec.{eqb}
 use lib.ListN.{length}
 use borrow.Author.Tests.{eqb-true, eq-eqb}
-use Rattle.basics.specs.Text.{if◌then◌else◌}
 use Rattle.basics.specs.Lists.{member}
 use Rattle.book.specs.Program.{Program, path, depth, shared}
 use Rattle.book.proofs.Paths.{Chain, chain, on-suffix}

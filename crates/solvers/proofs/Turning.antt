@@ -1,10 +1,10 @@
 -- A session turned wide and back, or back and wide again, is the one that it began with.
+use Rattle.std.specs.Prelude.{if◌then◌else◌}
 use Prim.Native.Nat.{ℕ, ◌≤◌}
 use mathlib.Core.Path.{◌≡◌, refl, sym, ◌∙◌}
 use mathlib.Core.Bool.{Bool, true, false, not}
 use lib.Dec.{leb, ltb}
 use borrow.Author.Tests.{leb-true, leb-false, le-leb, ltb-false, le-ltb, lt-ltb, not-false}
-use Rattle.basics.specs.Text.{if◌then◌else◌}
 use Rattle.basics.specs.Buffer.{scratch_least}
 use Rattle.basics.specs.Outcome.{refused, accepted, refuse, ◌>>◌}
 use Rattle.basics.proofs.Bool.{and_both}

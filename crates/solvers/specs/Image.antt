@@ -1,6 +1,5 @@
 -- The byte image of a session, which the host holds (docs/SESSION.md): four words and the levels.
-use Rattle.std.specs.Prelude.{ℕ, ◌+◌, ◌*◌, ◌/◌, ◌%◌, List, [], ◌∷◌, ◌++◌, Bool, true, false, ◌&&◌, eqb, ltb, length, get_or, drop}
-use Rattle.basics.specs.Text.{if◌then◌else◌}
+use Rattle.std.specs.Prelude.{ℕ, ◌+◌, ◌*◌, ◌/◌, ◌%◌, List, [], ◌∷◌, ◌++◌, Bool, true, false, ◌&&◌, eqb, ltb, length, get_or, drop, if◌then◌else◌}
 use Rattle.basics.specs.Outcome.{Outcome, refused, accepted}
 use Rattle.basics.specs.Bytes.{bytes4}
 use Rattle.book.specs.Book.{Book, word}

@@ -1,6 +1,5 @@
 -- The narrow kind of a session, which stores one byte for each level, and its turns to the wide kind, which every other call takes, and back.
-use Rattle.std.specs.Prelude.{ℕ, ◌+◌, ◌≤◌, ◌<◌, ◌≡◌, Bool, true, not, ◌&&◌, List, ◌++◌, eqb, leb, ltb, length, get_or, drop}
-use Rattle.basics.specs.Text.{if◌then◌else◌}
+use Rattle.std.specs.Prelude.{ℕ, ◌+◌, ◌≤◌, ◌<◌, ◌≡◌, Bool, true, not, ◌&&◌, List, ◌++◌, eqb, leb, ltb, length, get_or, drop, if◌then◌else◌}
 use Rattle.basics.specs.Outcome.{Outcome, refused, accepted, refuse, ◌>>◌}
 use Rattle.basics.specs.Buffer.{buffer_after, scratch_least, scratch_after}
 use Rattle.book.specs.Book.{Book, word}

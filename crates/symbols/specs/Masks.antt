@@ -1,6 +1,5 @@
 -- Sets of letters as two masks of 64 bits.
-use Rattle.std.specs.Prelude.{ℕ, ◌^◌, ◌/◌, ◌%◌, Bool, ◌&&◌, eqb, ltb}
-use Rattle.basics.specs.Text.{if◌then◌else◌}
+use Rattle.std.specs.Prelude.{ℕ, ◌^◌, ◌/◌, ◌%◌, Bool, ◌&&◌, eqb, ltb, if◌then◌else◌}
 
 -- the first mask has the letters below 64, the second those from 64 on
 unfoldable pub in_masks : (low high c : ℕ) → Bool

@@ -1,10 +1,11 @@
 -- The book test on books that differ from a good one in one place, or two. R n is point n of 03-readings.md.
+use Rattle.std.specs.Prelude.{if◌then◌else◌}
 use Prim.Native.Nat.{ℕ, ◌+◌, ◌*◌}
 use mathlib.Core.Path.{◌≡◌, refl}
 use mathlib.Core.List.{List, [], ◌∷◌, ◌++◌, map}
 use lib.ListN.{replicate, take, drop, set}
 use lib.Dec.{eqb}
-use Rattle.basics.specs.Text.{ascii, if◌then◌else◌}
+use Rattle.basics.specs.Text.{ascii}
 use Rattle.basics.specs.Outcome.{Outcome, refused, accepted}
 use Rattle.book.specs.Book.{Book, Section, letters, names, types, constants, functions, axioms, patterns, terms, contexts, lists, sections, offset, no_term}
 use Rattle.book_test.specs.BookTest.{BookTested, book_test, book_test_call}

@@ -1,5 +1,5 @@
 use Rattle.book_writer.proofs.Calls.{ready_for, call-refused, call-good}
-use Rattle.book_writer.proofs.records.append_name.Goals as goal
+use Rattle.book_writer.proofs.record_calls.append_name.Goals as goal
 
 pub append_name_in-requires : goal.append_name_in-requires
 append_name_in-requires c = ready_for _ _ _ c.book_test.ensures c.in-Good.is

@@ -1,5 +1,5 @@
 use Rattle.book_writer.proofs.Calls.{ready_for, call-refused, call-good}
-use Rattle.book_writer.proofs.records.append_constant.Goals as goal
+use Rattle.book_writer.proofs.record_calls.append_constant.Goals as goal
 
 pub append_constant_in-requires : goal.append_constant_in-requires
 append_constant_in-requires c = ready_for _ _ _ c.book_test.ensures c.in-Good.is

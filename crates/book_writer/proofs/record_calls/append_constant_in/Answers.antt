@@ -4,7 +4,7 @@ use Rattle.book_writer.specs.Coded.{grow_below}
 use Rattle.book_writer.proofs.Calls.{in-book}
 use Rattle.book_writer.proofs.Additions.{whole-as, append-as, constant-added}
 use Rattle.book_writer.specs.Growths.{append_constant}
-use Rattle.book_writer.proofs.records.append_constant_in.Goals as goal
+use Rattle.book_writer.proofs.record_calls.append_constant_in.Goals as goal
 
 pub append-requires : goal.append-requires
 append-requires c = (c.requires, whole-as c.args.book.now (append_constant c.args.name c.args.typ) (constant-added _ _ _ c.row2-row.ensures))

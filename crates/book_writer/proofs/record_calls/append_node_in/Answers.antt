@@ -4,7 +4,7 @@ use Rattle.book_writer.specs.Coded.{grow_below}
 use Rattle.book_writer.proofs.Calls.{not-in-book, in-book}
 use Rattle.book_writer.proofs.Additions.{whole-as, append-as, node-added}
 use Rattle.book_writer.specs.Growths.{append_node}
-use Rattle.book_writer.proofs.records.append_node_in.Goals as goal
+use Rattle.book_writer.proofs.record_calls.append_node_in.Goals as goal
 
 pub returns-then-outside : goal.returns-then-outside
 unfolding outside

@@ -1,5 +1,5 @@
 use Rattle.book_writer.proofs.Calls.{ready_for, call-refused, call-good}
-use Rattle.book_writer.proofs.records.append_node.Goals as goal
+use Rattle.book_writer.proofs.record_calls.append_node.Goals as goal
 
 pub append_node_in-requires : goal.append_node_in-requires
 append_node_in-requires c = ready_for _ _ _ c.book_test.ensures c.in-Good.is

@@ -5,7 +5,7 @@ use lib.ListN.{length}
 use Rattle.rsolver.specs.LevelState.{level_count}
 use Rattle.session_levels.proofs.Copying.{copied_none, copied_more, copied_all}
 use borrow.Author.Rules.{rules}
-use Rattle.narrow_sessions.proofs.levels.narrow_levels.Goals as goal
+use Rattle.narrow_sessions.proofs.level_turns.narrow_levels.Goals as goal
 
 pub loop-i-init : goal.loop-i-init
 loop-i-init c = (omega arith, copied_none _ _ (let long : length c.no_levels-turned.result ≡ level_count = search rules in omega (arith, long, c.requires.0)))

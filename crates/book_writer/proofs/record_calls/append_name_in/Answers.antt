@@ -4,7 +4,7 @@ use Rattle.book_writer.specs.Coded.{grow_below}
 use Rattle.book_writer.proofs.Calls.{in-book}
 use Rattle.book_writer.proofs.Additions.{whole-as, append-as, name-added}
 use Rattle.book_writer.specs.Growths.{append_name}
-use Rattle.book_writer.proofs.records.append_name_in.Goals as goal
+use Rattle.book_writer.proofs.record_calls.append_name_in.Goals as goal
 
 pub append-requires : goal.append-requires
 append-requires c = (c.requires, whole-as _ (append_name c.args.text.now) (name-added _ _ c.count.ensures.is c.range_start.ensures c.row2-row.ensures))
