@@ -1,5 +1,5 @@
 #!/usr/bin/env python3
-"""Brings the repository's own definitions, constructors and fields to snake case, by the table respell.tsv beside this script.
+"""Brings the repository's own definitions, constructors, fields and lemmas to snake case, by the table respell.tsv beside this script.
 
 usage: python3 tools/respell.py [ROOT]
 
@@ -37,6 +37,19 @@ def words(text, names):
     return WORD.sub(lambda m: names.get(m[0], m[0]), text)
 
 
+# Where the check names what it makes: the step behind `c.`, `w.` or `l.`, the goals, and the lines that state them.
+MADE = re.compile(r"(?<![\w.'-])(?:c|w|l)(?:\.before)*\.[^\s(){}.;,@\"«»`]+|\b(?:goal|tie|need|given)\.[^\s(){}.;,]+")
+
+
+def in_proof(text, names):
+    """Of a function's proof: names that the check makes stay."""
+    parts, at = [], 0
+    for made in MADE.finditer(text):
+        parts += [words(text[at : made.start()], names), made[0]]
+        at = made.end()
+    return "".join(parts) + words(text[at:], names)
+
+
 def outside_quotes(text, names):
     parts, at = [], 0
     for quoted in QUOTED.finditer(text):
@@ -55,6 +68,8 @@ def turned(path, text, names):
         own = {word for word, files in LEMMAS.items() if any(path.endswith(f"crates/{file}.antt") for file in files)}
         for word in own:
             text = re.sub(rf"(?<![\w.'-]){word}(?![\w'-])", word.replace("_", "-"), text)
+        if path.endswith(("/Answers.antt", "/Invariants.antt", "/Proof.antt")):
+            return in_proof(text, names)
         return outside_quotes(text, names)
     if path.endswith(".rt"):
         return outside_quotes(text, names)

@@ -22,9 +22,9 @@ pub record Accepted (b : Book) (ns : List ℕ) (s : Text) (v : Verdict) : Type 0
   pub even : length (checks s) ≡ length (questions_of ns)
   pub given : v ≡ verdict 1 (agreeing b (checks s) (questions_of ns))
 
-pub not-refused : (scratch : ℕ) (b : Book) (ns : List ℕ) (s : Text) (v : Verdict) → audited scratch b ns s ≡ accepted v → Accepted b ns s v
+pub not_refused : (scratch : ℕ) (b : Book) (ns : List ℕ) (s : Text) (v : Verdict) → audited scratch b ns s ≡ accepted v → Accepted b ns s v
 unfolding audited
-not-refused scratch b ns s v e =
+not_refused scratch b ns s v e =
     let p₁ = (passed 1 _ _ e).1 in
     let p₂ = (passed 2 _ _ p₁).1 in
     let p₃ = passed 3 _ _ p₂ in

@@ -21,35 +21,35 @@ use Rattle.audit.specs.Audit.{agreeing, verdict, audited_value}
 use Rattle.audit.specs.Ladder.{checks_in}
 use Rattle.audit.specs.Comparable.{Taken, Comparable}
 
-answered-foreign : (f : Bool) (n : ℕ) → answered f n ≡ Foreign → f ≡ true
+answered_foreign : (f : Bool) (n : ℕ) → answered f n ≡ Foreign → f ≡ true
 unfolding answered
-answered-foreign true n e = refl
-answered-foreign false n e = let z : ◌≡◌ {A = ℕ} 0 1 = cc in absurd (omega arith)
+answered_foreign true n e = refl
+answered_foreign false n e = let z : ◌≡◌ {A = ℕ} 0 1 = cc in absurd (omega arith)
 
-answered-counted : (f : Bool) (k n : ℕ) → answered f k ≡ Counted n → (f ≡ false) × (k ≡ n)
+answered_counted : (f : Bool) (k n : ℕ) → answered f k ≡ Counted n → (f ≡ false) × (k ≡ n)
 unfolding answered
-answered-counted true k n e = let z : ◌≡◌ {A = ℕ} 0 1 = cc in absurd (omega arith)
-answered-counted false k n e = (refl, cc)
+answered_counted true k n e = let z : ◌≡◌ {A = ℕ} 0 1 = cc in absurd (omega arith)
+answered_counted false k n e = (refl, cc)
 
 module _ (b : Book) (ns : List ℕ) (s : Text) {d : Checks} (is : d ≡ check_count s) where
   pub foreign : d ≡ Foreign → audited_value (Refused ForeignLine) ≡ checks_in b ns s
   unfolding audited_value checks_in refuse ◌>>◌ number check_count
-  foreign e = rw (answered-foreign (is_foreign s) (length (checks s)) (sym is ∙ e))
+  foreign e = rw (answered_foreign (is_foreign s) (length (checks s)) (sym is ∙ e))
 
   module _ {n m : ℕ} (e : d ≡ Counted n) (questions : m ≡ length (questions_of ns)) where
-    all-ours : (is_foreign s ≡ false) × (length (checks s) ≡ n)
+    all_ours : (is_foreign s ≡ false) × (length (checks s) ≡ n)
     unfolding check_count
-    all-ours = answered-counted (is_foreign s) (length (checks s)) n (sym is ∙ e)
+    all_ours = answered_counted (is_foreign s) (length (checks s)) n (sym is ∙ e)
 
     pub uneven : (n ≡ m → ⊥) → audited_value (Refused ChecksDiffer) ≡ checks_in b ns s
     unfolding audited_value checks_in refuse ◌>>◌ number
-    uneven h = rw (all-ours.0, all-ours.1, ← questions, ne_eqb n m h)
+    uneven h = rw (all_ours.0, all_ours.1, ← questions, ne_eqb n m h)
 
     module _ (same : n ≡ m) where
       pub comparable : Taken b ns s → Comparable b ns s
       comparable t =
-          record { taken = t; ours = all-ours.0; even = all-ours.1 ∙ same ∙ questions }
+          record { taken = t; ours = all_ours.0; even = all_ours.1 ∙ same ∙ questions }
 
       pub compared : (r : Audited) → audited_value r ≡ accepted (verdict 1 (agreeing b (checks s) (questions_of ns))) → audited_value r ≡ checks_in b ns s
       unfolding checks_in refuse ◌>>◌
-      compared r g = g ∙ rw (all-ours.0, eq-eqb (length (checks s)) (length (questions_of ns)) (all-ours.1 ∙ same ∙ questions))
+      compared r g = g ∙ rw (all_ours.0, eq-eqb (length (checks s)) (length (questions_of ns)) (all_ours.1 ∙ same ∙ questions))

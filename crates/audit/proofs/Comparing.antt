@@ -14,17 +14,17 @@ use Rattle.smt_engines.specs.SmtEngines.{CMD_CHECK_SAT}
 use Rattle.smt_engines.specs.Reader.{cut, Stack, first, live, read}
 use Rattle.command_lines.specs.Lines.{line_at, line_end}
 use Rattle.command_lines.specs.CommandLines.{is_command}
-use Rattle.command_lines.proofs.Cutting.{cut-behind}
-use Rattle.command_lines.proofs.Reading.{check-length}
+use Rattle.command_lines.proofs.Cutting.{cut_behind}
+use Rattle.command_lines.proofs.Reading.{check_length}
 use Rattle.script_checks.specs.ScriptChecks.{noted, checks_from, checks, is_foreign, foreign_from}
 use Rattle.script_checks.proofs.Steps.{Stepped, step}
 use Rattle.live_lines.specs.LiveLines.{places, Lives, Heard}
-use Rattle.live_lines.proofs.Living.{lives-none, lives-room}
+use Rattle.live_lines.proofs.Living.{lives_none, lives_room}
 use Rattle.level_lines.specs.AsOften.{same_levels}
 use Rattle.level_lines.specs.LevelLines.{stack_of}
 use Rattle.level_lines.specs.Bytes.{total, stack_bytes}
-use Rattle.level_lines.proofs.Stacks.{lives-stack}
-use Rattle.level_lines.proofs.Bytes.{hear-bytes}
+use Rattle.level_lines.proofs.Stacks.{lives_stack}
+use Rattle.level_lines.proofs.Bytes.{hear_bytes}
 use Rattle.question_lists.specs.Questions.{questions_of, question_at, stack_for}
 use Rattle.audit.specs.declared.Audited.TheVariants.{Agrees, Differs}
 use Rattle.audit.specs.declared.compare.Step.{Step}
@@ -48,7 +48,7 @@ module _ (b : Book) (ns : List ℕ) (s : Text) (c : Comparable b ns s) where
   midway_start starts =
       record {
         stack = first [];
-        lives = lives-none s starts;
+        lives = lives_none s starts;
         bytes = omega arith;
         ours = c.ours;
         count = omega (arith, c.even);
@@ -57,60 +57,60 @@ module _ (b : Book) (ns : List ℕ) (s : Text) (c : Comparable b ns s) where
       }
 
   module _ {starts : List ℕ} {n at k : ℕ} (m : Midway b ns s starts n at k) where
-    pub midway-done : length s ≤ at → audited_value Agrees ≡ accepted (verdict 1 (agreeing b (checks s) (questions_of ns)))
+    pub midway_done : length s ≤ at → audited_value Agrees ≡ accepted (verdict 1 (agreeing b (checks s) (questions_of ns)))
     unfolding audited_value checks_from agreeing verdict
-    midway-done l = ap accepted (sym (m.decides ∙ rw (cut-behind s at l)))
+    midway_done l = ap accepted (sym (m.decides ∙ rw (cut_behind s at l)))
 
     -- at a line
     module _ (h : at < length s) where
       next : Stepped s at m.stack
       next = step s at h m.stack m.ours
 
-      pub midway-ours : is_command (line_at s at) ≡ true
-      midway-ours = next.command
+      pub midway_ours : is_command (line_at s at) ≡ true
+      midway_ours = next.command
 
-      pub midway-room : length starts ≡ places → n < length starts
-      midway-room e = omega (arith, e, lives-room m.lives (omega (arith, c.taken.short)))
+      pub midway_room : length starts ≡ places → n < length starts
+      midway_room e = omega (arith, e, lives_room m.lives (omega (arith, c.taken.short)))
 
       -- the check-sats from here on, with this one in front
-      check-here : same (line_at s at) CMD_CHECK_SAT ≡ true
+      check_here : same (line_at s at) CMD_CHECK_SAT ≡ true
           → checks_from (live m.stack) (cut (drop at s)) ≡ m.stack ∷ checks_from (live next.stack) (cut (drop (suc (line_end s at)) s))
       unfolding noted
-      check-here e = rw e at next.checks
+      check_here e = rw e at next.checks
 
-      no-check : same (line_at s at) CMD_CHECK_SAT ≡ false
+      no_check : same (line_at s at) CMD_CHECK_SAT ≡ false
           → checks_from (live m.stack) (cut (drop at s)) ≡ checks_from (live next.stack) (cut (drop (suc (line_end s at)) s))
       unfolding noted
-      no-check e = rw e at next.checks
+      no_check e = rw e at next.checks
 
       one_more : same (line_at s at) CMD_CHECK_SAT ≡ true → k < length (questions_of ns)
       one_more e =
           let l : k + suc (length (checks_from (live next.stack) (cut (drop (suc (line_end s at)) s)))) ≡ length (questions_of ns) =
-          ap (λ (l : List Stack). k + length l) (sym (check-here e)) ∙ m.count in
+          ap (λ (l : List Stack). k + length l) (sym (check_here e)) ∙ m.count in
           omega (arith, l)
 
-      pub midway-before : Before b ns s starts n at k
+      pub midway_before : Before b ns s starts n at k
       unfolding line_end
-      midway-before =
+      midway_before =
           record {
             promise = c.taken.promise;
             inside = c.taken.inside;
             held = m.lives.held;
-            few = rw (lives-stack s starts m.lives) at m.bytes;
+            few = rw (lives_stack s starts m.lives) at m.bytes;
             counted = omega (arith, m.few, c.taken.short);
-            asked = λ e. (one_more e, omega (arith, check-length (line_at s at) e, next.inside, c.taken.short));
+            asked = λ e. (one_more e, omega (arith, check_length (line_at s at) e, next.inside, c.taken.short));
           }
 
       -- the verdict at a check-sat
-      at-check : same (line_at s at) CMD_CHECK_SAT ≡ true → (x : Bool) → same_levels m.stack (stack_for b (question_at (questions_of ns) k)) ≡ x
+      at_check : same (line_at s at) CMD_CHECK_SAT ≡ true → (x : Bool) → same_levels m.stack (stack_for b (question_at (questions_of ns) k)) ≡ x
           → verdict 1 (agreeing b (checks s) (questions_of ns))
           ≡ verdict (suc k) (x ∷ agreeing b (checks_from (live next.stack) (cut (drop (suc (line_end s at)) s))) (drop (suc k) (questions_of ns)))
       unfolding agreeing question_at
-      at-check e x a = m.decides ∙ rw (check-here e, drop-cons (questions_of ns) k (record { node = 0; goal = 0 }) (one_more e), a)
+      at_check e x a = m.decides ∙ rw (check_here e, drop-cons (questions_of ns) k (record { node = 0; goal = 0 }) (one_more e), a)
 
-      levels-here : (x : Bool) → same_levels (stack_of s starts n) (stack_for b (question_at (questions_of ns) k)) ≡ x
+      levels_here : (x : Bool) → same_levels (stack_of s starts n) (stack_for b (question_at (questions_of ns) k)) ≡ x
           → same_levels m.stack (stack_for b (question_at (questions_of ns) k)) ≡ x
-      levels-here x a = ap (λ (st : Stack). same_levels st (stack_for b (question_at (questions_of ns) k))) (lives-stack s starts m.lives) ∙ a
+      levels_here x a = ap (λ (st : Stack). same_levels st (stack_for b (question_at (questions_of ns) k))) (lives_stack s starts m.lives) ∙ a
 
       -- the line is heard
       module _ {later : List ℕ} {p : ℕ} (g : Heard s at starts later n p) where
@@ -124,16 +124,16 @@ module _ (b : Book) (ns : List ℕ) (s : Text) (c : Comparable b ns s) where
             record {
               stack = next.stack;
               lives = g.lives m.stack next.stack m.lives next.heard;
-              bytes = omega (arith, m.bytes, hear-bytes m.stack next.stack (line_at s at) next.heard);
+              bytes = omega (arith, m.bytes, hear_bytes m.stack next.stack (line_at s at) next.heard);
               ours = next.ours;
               count = count;
               decides = decides;
               few = omega arith;
             }
 
-        pub midway-on : {j : ℕ} {r : Step} → r ≡ step_at b ns s starts n at k → r ≡ On j → Midway b ns s later p (suc (line_end s at)) j
+        pub midway_on : {j : ℕ} {r : Step} → r ≡ step_at b ns s starts n at k → r ≡ On j → Midway b ns s later p (suc (line_end s at)) j
         unfolding step_at stepped verdict
-        midway-on {j} e o = by (same (line_at s at) CMD_CHECK_SAT) refl (same_levels (stack_of s starts n) (stack_for b (question_at (questions_of ns) k))) refl (sym e ∙ o)
+        midway_on {j} e o = by (same (line_at s at) CMD_CHECK_SAT) refl (same_levels (stack_of s starts n) (stack_for b (question_at (questions_of ns) k))) refl (sym e ∙ o)
           where
             by : (x : Bool) → same (line_at s at) CMD_CHECK_SAT ≡ x
                 → (y : Bool) → same_levels (stack_of s starts n) (stack_for b (question_at (questions_of ns) k)) ≡ y
@@ -141,25 +141,25 @@ module _ (b : Book) (ns : List ℕ) (s : Text) (c : Comparable b ns s) where
             by false q y a z =
                 let i : k ≡ j = cc in
                 subst (λ (j : ℕ). Midway b ns s later p (suc (line_end s at)) j) i
-                (on k (omega (arith, m.few)) (rw (no-check q) at m.count) (rw (no-check q) at m.decides))
+                (on k (omega (arith, m.few)) (rw (no_check q) at m.count) (rw (no_check q) at m.decides))
             by true q true a z =
                 let i : suc k ≡ j = cc in
                 subst (λ (j : ℕ). Midway b ns s later p (suc (line_end s at)) j) i
-                (on (suc k) (omega (arith, m.few)) (omega (arith, m.count, ap length (check-here q))) (at-check q true (levels-here true a)))
+                (on (suc k) (omega (arith, m.few)) (omega (arith, m.count, ap length (check_here q))) (at_check q true (levels_here true a)))
             by true q false a z = let f : ◌≡◌ {A = ℕ} 0 1 = cc in absurd (omega arith)
 
-      pub midway-stop : {r : Step} → r ≡ step_at b ns s starts n at k → r ≡ Stop
+      pub midway_stop : {r : Step} → r ≡ step_at b ns s starts n at k → r ≡ Stop
           → audited_value (Differs (k + 1)) ≡ accepted (verdict 1 (agreeing b (checks s) (questions_of ns)))
       unfolding step_at stepped audited_value verdict
-      midway-stop e o = by (same (line_at s at) CMD_CHECK_SAT) refl (same_levels (stack_of s starts n) (stack_for b (question_at (questions_of ns) k))) refl (sym e ∙ o)
+      midway_stop e o = by (same (line_at s at) CMD_CHECK_SAT) refl (same_levels (stack_of s starts n) (stack_for b (question_at (questions_of ns) k))) refl (sym e ∙ o)
         where
           by : (x : Bool) → same (line_at s at) CMD_CHECK_SAT ≡ x
               → (y : Bool) → same_levels (stack_of s starts n) (stack_for b (question_at (questions_of ns) k)) ≡ y
               → stepped x y k ≡ Stop → accepted (differs_at (k + 1)) ≡ accepted (verdict 1 (agreeing b (checks s) (questions_of ns)))
           by false q y a z = let f : ◌≡◌ {A = ℕ} 0 1 = cc in absurd (omega arith)
           by true q true a z = let f : ◌≡◌ {A = ℕ} 0 1 = cc in absurd (omega arith)
-          by true q false a z = rw (add-one k) (ap accepted (sym (at-check q false (levels-here false a))))
+          by true q false a z = rw (add-one k) (ap accepted (sym (at_check q false (levels_here false a))))
 
   -- the place as the code counts it
-  pub midway-next : (at : ℕ) {starts : List ℕ} {n k e : ℕ} → e ≡ line_end s at → Midway b ns s starts n (suc (line_end s at)) k → Midway b ns s starts n (e + 1) k
-  midway-next at q m = rw (q, add-one (line_end s at)) m
+  pub midway_next : (at : ℕ) {starts : List ℕ} {n k e : ℕ} → e ≡ line_end s at → Midway b ns s starts n (suc (line_end s at)) k → Midway b ns s starts n (e + 1) k
+  midway_next at q m = rw (q, add-one (line_end s at)) m

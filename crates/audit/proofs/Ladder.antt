@@ -52,44 +52,44 @@ unfoldable pub lowered : (long : Bool) → Outcome (Unit {0}) → Outcome (Unit 
 lowered long (refused k) = refused (with_script long k)
 lowered long (accepted u) = accepted u
 
-three-in-place : {A : Type 0} (c1 c2 c3 long c4 c5 c6 c28 : Bool) (rest : Outcome A)
+three_in_place : {A : Type 0} (c1 c2 c3 long c4 c5 c6 c28 : Bool) (rest : Outcome A)
     → (refuse 1 c1 >> refuse 2 c2 >> refuse 3 (c3 || long) >> refuse 4 c4 >> refuse 5 c5 >> refuse 6 c6 >> refuse 28 c28 >> rest)
     ≡ (lowered long (refuse 1 c1 >> refuse 2 c2 >> refuse 3 c3 >> refuse 4 c4 >> refuse 5 c5 >> refuse 6 c6 >> refuse 28 c28 >> accepted tt) >> refuse 3 long >> rest)
 unfolding lowered refuse ◌>>◌ with_script
-three-in-place true c2 c3 true c4 c5 c6 c28 rest = refl
-three-in-place true c2 c3 false c4 c5 c6 c28 rest = refl
-three-in-place false true c3 true c4 c5 c6 c28 rest = refl
-three-in-place false true c3 false c4 c5 c6 c28 rest = refl
-three-in-place false false true true c4 c5 c6 c28 rest = refl
-three-in-place false false true false c4 c5 c6 c28 rest = refl
-three-in-place false false false true true c5 c6 c28 rest = refl
-three-in-place false false false true false true c6 c28 rest = refl
-three-in-place false false false true false false true c28 rest = refl
-three-in-place false false false true false false false true rest = refl
-three-in-place false false false true false false false false rest = refl
-three-in-place false false false false true c5 c6 c28 rest = refl
-three-in-place false false false false false true c6 c28 rest = refl
-three-in-place false false false false false false true c28 rest = refl
-three-in-place false false false false false false false true rest = refl
-three-in-place false false false false false false false false rest = refl
+three_in_place true c2 c3 true c4 c5 c6 c28 rest = refl
+three_in_place true c2 c3 false c4 c5 c6 c28 rest = refl
+three_in_place false true c3 true c4 c5 c6 c28 rest = refl
+three_in_place false true c3 false c4 c5 c6 c28 rest = refl
+three_in_place false false true true c4 c5 c6 c28 rest = refl
+three_in_place false false true false c4 c5 c6 c28 rest = refl
+three_in_place false false false true true c5 c6 c28 rest = refl
+three_in_place false false false true false true c6 c28 rest = refl
+three_in_place false false false true false false true c28 rest = refl
+three_in_place false false false true false false false true rest = refl
+three_in_place false false false true false false false false rest = refl
+three_in_place false false false false true c5 c6 c28 rest = refl
+three_in_place false false false false false true c6 c28 rest = refl
+three_in_place false false false false false false true c28 rest = refl
+three_in_place false false false false false false false true rest = refl
+three_in_place false false false false false false false false rest = refl
 
-pub by-book-test : (n : ℕ) (b : Book) (ns : List ℕ) (s : Text) → audited n b ns s ≡ (lowered (is_long s) (ready n b) >> audit_in b ns s)
+pub by_book_test : (n : ℕ) (b : Book) (ns : List ℕ) (s : Text) → audited n b ns s ≡ (lowered (is_long s) (ready n b) >> audit_in b ns s)
 unfolding audited ready book_test audit_in checks_in is_long
-by-book-test n b ns s =
-    three-in-place (ltb n scratch_least) (not (laid_out b)) (not (counts_fit b)) (is_long s) (not (in_range b)) (not (is_forest b)) (not (shallow b)) (not (names_good b)) _
+by_book_test n b ns s =
+    three_in_place (ltb n scratch_least) (not (laid_out b)) (not (counts_fit b)) (is_long s) (not (in_range b)) (not (is_forest b)) (not (shallow b)) (not (names_good b)) _
 
 -- ---- the whole call
 module _ (b : Book) (scratch questions : List ℕ) (s : Text) {d : Tested} {after : List ℕ}
     (h : (tested_value d ≡ (book_test_call b scratch).answer) × (after ≡ (book_test_call b scratch).scratch)) where
-  pub call-stops : (r : Refusal) {why : Refusal} → d ≡ tested.Refused why → number r ≡ with_script (is_long s) (number why)
+  pub call_stops : (r : Refusal) {why : Refusal} → d ≡ tested.Refused why → number r ≡ with_script (is_long s) (number why)
       → (audited_value (Refused r) ≡ (audit_call b scratch questions s).answer) × (after ≡ (audit_call b scratch questions s).scratch)
   unfolding audit_call audited_value book_test_call lowered ◌>>◌
-  call-stops r e l = (rw (by-book-test (length scratch) b (numbers questions) s, stops b scratch h.0 e, l), h.1)
+  call_stops r e l = (rw (by_book_test (length scratch) b (numbers questions) s, stops b scratch h.0 e, l), h.1)
 
   pub call_passes : (r : Audited) → d ≡ tested.Good → audited_value r ≡ audit_in b (numbers questions) s
       → (audited_value r ≡ (audit_call b scratch questions s).answer) × (after ≡ (audit_call b scratch questions s).scratch)
   unfolding audit_call book_test_call lowered ◌>>◌
-  call_passes r e g = (rw (by-book-test (length scratch) b (numbers questions) s, passes b scratch h.0 e) g, h.1)
+  call_passes r e g = (rw (by_book_test (length scratch) b (numbers questions) s, passes b scratch h.0 e) g, h.1)
 
 -- ---- in a book that passed its test
 module _ (b : Book) (ns : List ℕ) (s : Text) where

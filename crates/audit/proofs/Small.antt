@@ -13,20 +13,20 @@ use Rattle.smt_engines.specs.Reader.{glue, cut, Stack, first, Reader, live, lost
 use Rattle.script_checks.specs.ScriptChecks.{noted, checks_from, checks}
 use Rattle.live_lines.specs.LiveLines.{script_most}
 use Rattle.question_lists.specs.Questions.{Question, questions_of}
-use Rattle.audit.proofs.Accepted.{Accepted, not-refused}
+use Rattle.audit.proofs.Accepted.{Accepted, not_refused}
 use Rattle.audit.specs.Audit.{differs_at, agreeing, verdict, audited, audit_call, Small}
 
-verdict-below : (k : ℕ) (bs : List Bool) (j : ℕ) → verdict k bs ≡ differs_at j → j < k + length bs
+verdict_below : (k : ℕ) (bs : List Bool) (j : ℕ) → verdict k bs ≡ differs_at j → j < k + length bs
 unfolding verdict
-verdict-below k [] j e = let z : ◌≡◌ {A = ℕ} 0 1 = cc in absurd (omega arith)
-verdict-below k (true ∷ bs) j e = omega (arith, verdict-below (suc k) bs j e)
-verdict-below k (false ∷ bs) j e = let i : k ≡ j = cc in omega (arith, i)
+verdict_below k [] j e = let z : ◌≡◌ {A = ℕ} 0 1 = cc in absurd (omega arith)
+verdict_below k (true ∷ bs) j e = omega (arith, verdict_below (suc k) bs j e)
+verdict_below k (false ∷ bs) j e = let i : k ≡ j = cc in omega (arith, i)
 
-agreeing-few : (b : Book) (sts : List Stack) (qs : List Question) → length (agreeing b sts qs) ≤ length sts
+agreeing_few : (b : Book) (sts : List Stack) (qs : List Question) → length (agreeing b sts qs) ≤ length sts
 unfolding agreeing
-agreeing-few b [] qs = omega arith
-agreeing-few b (st ∷ sts) [] = omega arith
-agreeing-few b (st ∷ sts) (q ∷ qs) = omega (arith, agreeing-few b sts qs)
+agreeing_few b [] qs = omega arith
+agreeing_few b (st ∷ sts) [] = omega arith
+agreeing_few b (st ∷ sts) (q ∷ qs) = omega (arith, agreeing_few b sts qs)
 
 noted_one : (x : Bool) (r : Reader) → length (noted x r) ≤ 1
 unfolding noted
@@ -34,37 +34,37 @@ noted_one true (live st) = omega arith
 noted_one true lost = omega arith
 noted_one false r = omega arith
 
-checks-few : (r : Reader) (ls : List Text) → length (checks_from r ls) ≤ length ls
+checks_few : (r : Reader) (ls : List Text) → length (checks_from r ls) ≤ length ls
 unfolding checks_from
-checks-few r [] = omega arith
-checks-few r (l ∷ ls) =
-    omega (arith, length-append (noted (same l CMD_CHECK_SAT) r) (checks_from (hear r l) ls), noted_one (same l CMD_CHECK_SAT) r, checks-few (hear r l) ls)
+checks_few r [] = omega arith
+checks_few r (l ∷ ls) =
+    omega (arith, length-append (noted (same l CMD_CHECK_SAT) r) (checks_from (hear r l) ls), noted_one (same l CMD_CHECK_SAT) r, checks_few (hear r l) ls)
 
-cut-few : (s : Text) → length (cut s) ≤ length s
+cut_few : (s : Text) → length (cut s) ≤ length s
 unfolding cut glue
-cut-few [] = omega arith
-cut-few (c ∷ s) = at (eqb c newline) (cut s) (cut-few s)
+cut_few [] = omega arith
+cut_few (c ∷ s) = at (eqb c newline) (cut s) (cut_few s)
   where
     at : (x : Bool) (ls : List Text) → length ls ≤ length s → length (glue x c ls) ≤ suc (length s)
     at true ls h = omega arith
     at false [] h = omega arith
     at false (l ∷ ls) h = omega arith
 
-pub audited-small : (scratch : ℕ) (b : Book) (ns : List ℕ) (s : Text) → Small (audited scratch b ns s)
+pub audited_small : (scratch : ℕ) (b : Book) (ns : List ℕ) (s : Text) → Small (audited scratch b ns s)
 unfolding checks
-audited-small scratch b ns s = record { most = λ k e. by k (not-refused scratch b ns s (differs_at k) e) }
+audited_small scratch b ns s = record { most = λ k e. by k (not_refused scratch b ns s (differs_at k) e) }
   where
     by : (k : ℕ) → Accepted b ns s (differs_at k) → k ≤ script_most
     by k a =
         omega (
           arith,
           a.short,
-          verdict-below 1 (agreeing b (checks s) (questions_of ns)) k (sym a.given),
-          agreeing-few b (checks s) (questions_of ns),
-          checks-few (live (first [])) (cut s),
-          cut-few s,
+          verdict_below 1 (agreeing b (checks s) (questions_of ns)) k (sym a.given),
+          agreeing_few b (checks s) (questions_of ns),
+          checks_few (live (first [])) (cut s),
+          cut_few s,
         )
 
-pub call-small : (b : Book) (scratch questions : List ℕ) (s : Text) → Small (audit_call b scratch questions s).answer
+pub call_small : (b : Book) (scratch questions : List ℕ) (s : Text) → Small (audit_call b scratch questions s).answer
 unfolding audit_call
-call-small b scratch questions s = audited-small (length scratch) b _ s
+call_small b scratch questions s = audited_small (length scratch) b _ s

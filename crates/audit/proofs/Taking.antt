@@ -14,22 +14,22 @@ use Rattle.level_lines.specs.AsOften.{same_levels}
 use Rattle.level_lines.specs.LevelLines.{stack_of}
 use Rattle.own_levels.specs.OwnLevels.{Compared}
 use Rattle.question_lists.specs.Questions.{questions_of, question_at, stack_for}
-use Rattle.question_lists.proofs.Inside.{node-inside, goal-inside}
+use Rattle.question_lists.proofs.Inside.{node_inside, goal_inside}
 use Rattle.audit.specs.declared.compare.Step.TheVariants.{On, Stop}
 use Rattle.audit.specs.Comparable.{Before, stepped, step_at}
 
 module _ (b : Book) (ns : List ℕ) (s : Text) (starts : List ℕ) (n at k : ℕ) where
-  pub no-question : same (line_at s at) CMD_CHECK_SAT ≡ false → On k ≡ step_at b ns s starts n at k
+  pub no_question : same (line_at s at) CMD_CHECK_SAT ≡ false → On k ≡ step_at b ns s starts n at k
   unfolding step_at stepped
-  no-question e = rw e
+  no_question e = rw e
 
-  module _ (check : same (line_at s at) CMD_CHECK_SAT ≡ true) {node goal : ℕ} (node-is : node ≡ (question_at (questions_of ns) k).node) (goal-is : goal ≡ (question_at (questions_of ns) k).goal) where
-    pub to-compare : Before b ns s starts n at k → Compared b node goal s at starts n
-    to-compare r =
+  module _ (check : same (line_at s at) CMD_CHECK_SAT ≡ true) {node goal : ℕ} (node_is : node ≡ (question_at (questions_of ns) k).node) (goal-is : goal ≡ (question_at (questions_of ns) k).goal) where
+    pub to_compare : Before b ns s starts n at k → Compared b node goal s at starts n
+    to_compare r =
         record {
           promise = r.promise;
-          inside = node-inside b (questions_of ns) r.inside (r.asked check).0 node-is;
-          asked = goal-inside b (questions_of ns) r.inside (r.asked check).0 goal-is;
+          inside = node_inside b (questions_of ns) r.inside (r.asked check).0 node_is;
+          asked = goal_inside b (questions_of ns) r.inside (r.asked check).0 goal-is;
           held = r.held;
           few = r.few;
           room = (r.asked check).1;
@@ -39,12 +39,12 @@ module _ (b : Book) (ns : List ℕ) (s : Text) (starts : List ℕ) (n at k : ℕ
       -- of the question's own levels
       own : same_levels (stack_of s starts n) (stack_for b (question_at (questions_of ns) k)) ≡ x
       unfolding stack_for
-      own = rw (← node-is, ← goal-is) (sym e)
+      own = rw (← node_is, ← goal-is) (sym e)
 
-      pub agrees-here : x ≡ true → On (k + 1) ≡ step_at b ns s starts n at k
+      pub agrees_here : x ≡ true → On (k + 1) ≡ step_at b ns s starts n at k
       unfolding step_at stepped
-      agrees-here t = rw (check, own, t, add-one k)
+      agrees_here t = rw (check, own, t, add-one k)
 
-      pub differs-here : x ≡ false → Stop ≡ step_at b ns s starts n at k
+      pub differs_here : x ≡ false → Stop ≡ step_at b ns s starts n at k
       unfolding step_at stepped
-      differs-here t = rw (check, own, t)
+      differs_here t = rw (check, own, t)

@@ -22,9 +22,9 @@ all_split [] b h = (end, h)
 all_split (x ∷ a) b (more h hs) = let r = all_split a b hs in (more h r.0, r.1)
 
 -- what follows from what holds of each
-pub all-weaken : {A : Type 0} {P Q : A → Type 0} → ((x : A) → P x → Q x) → {l : List A} → All P l → All Q l
-all-weaken f end = end
-all-weaken f (more {a = x} h hs) = more (f x h) (all-weaken f hs)
+pub all_weaken : {A : Type 0} {P Q : A → Type 0} → ((x : A) → P x → Q x) → {l : List A} → All P l → All Q l
+all_weaken f end = end
+all_weaken f (more {a = x} h hs) = more (f x h) (all_weaken f hs)
 
 pub all_head : {A : Type 0} {P : A → Type 0} {a : A} {l : List A} → All P (a ∷ l) → P a
 all_head (more h hs) = h
@@ -61,6 +61,6 @@ all_true [] test h = end
 all_true (x ∷ xs) test h = let r = and_both (test x) (all xs test) h in more r.0 (all_true xs test r.1)
 
 -- functions that agree on a list's elements
-pub map-agree : {A B : Type 0} (Q : A → Type 0) (f g : A → B) → ((x : A) → Q x → f x ≡ g x) → {xs : List A} → All Q xs → map f xs ≡ map g xs
-map-agree Q f g h end = refl
-map-agree Q f g h (more {a = x} q qs) = rw (h x q, map-agree Q f g h qs)
+pub map_agree : {A B : Type 0} (Q : A → Type 0) (f g : A → B) → ((x : A) → Q x → f x ≡ g x) → {xs : List A} → All Q xs → map f xs ≡ map g xs
+map_agree Q f g h end = refl
+map_agree Q f g h (more {a = x} q qs) = rw (h x q, map_agree Q f g h qs)

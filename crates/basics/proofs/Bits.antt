@@ -14,16 +14,16 @@ use borrow.Author.Tests.{eq-eqb, eqb-true, eqb-false, ltb-true, ltb-false}
 use Rattle.basics.specs.Bits.{power, has_bit, with_bit, has_number, with_number}
 
 -- what holds of each of a byte's bits
-each-bit : (P : ℕ → Type 0) → P 0 → P 1 → P 2 → P 3 → P 4 → P 5 → P 6 → P 7 → (i : ℕ) → i < 8 → P i
-each-bit P a b c d e f g h zero l = a
-each-bit P a b c d e f g h (suc zero) l = b
-each-bit P a b c d e f g h (suc (suc zero)) l = c
-each-bit P a b c d e f g h (suc (suc (suc zero))) l = d
-each-bit P a b c d e f g h (suc (suc (suc (suc zero)))) l = e
-each-bit P a b c d e f g h (suc (suc (suc (suc (suc zero))))) l = f
-each-bit P a b c d e f g h (suc (suc (suc (suc (suc (suc zero)))))) l = g
-each-bit P a b c d e f g h (suc (suc (suc (suc (suc (suc (suc zero))))))) l = h
-each-bit P a b c d e f g h (suc (suc (suc (suc (suc (suc (suc (suc i)))))))) l = absurd (omega arith)
+each_bit : (P : ℕ → Type 0) → P 0 → P 1 → P 2 → P 3 → P 4 → P 5 → P 6 → P 7 → (i : ℕ) → i < 8 → P i
+each_bit P a b c d e f g h zero l = a
+each_bit P a b c d e f g h (suc zero) l = b
+each_bit P a b c d e f g h (suc (suc zero)) l = c
+each_bit P a b c d e f g h (suc (suc (suc zero))) l = d
+each_bit P a b c d e f g h (suc (suc (suc (suc zero)))) l = e
+each_bit P a b c d e f g h (suc (suc (suc (suc (suc zero))))) l = f
+each_bit P a b c d e f g h (suc (suc (suc (suc (suc (suc zero)))))) l = g
+each_bit P a b c d e f g h (suc (suc (suc (suc (suc (suc (suc zero))))))) l = h
+each_bit P a b c d e f g h (suc (suc (suc (suc (suc (suc (suc (suc i)))))))) l = absurd (omega arith)
 
 -- ---- a number's bits, one by one from the lowest
 bit : ℕ → ℕ → ℕ
@@ -41,12 +41,12 @@ unfolding bit
 bit_added zero x z = omega (arith, z)
 bit_added (suc i) x z = rw (halved i x) (bit_added i (x / 2) z)
 
-bit-other : (i j x : ℕ) → (j ≡ i → ⊥) → (bit x i ≡ 1 → ⊥) → bit (x + 2 ^ i) j ≡ bit x j
+bit_other : (i j x : ℕ) → (j ≡ i → ⊥) → (bit x i ≡ 1 → ⊥) → bit (x + 2 ^ i) j ≡ bit x j
 unfolding bit
-bit-other zero zero x n z = absurd (n refl)
-bit-other zero (suc j) x n z = let e : (x + 1) / 2 ≡ x / 2 = omega (arith, z) in rw e
-bit-other (suc i) zero x n z = let e : 2 ^ suc i ≡ 2 * 2 ^ i = twice i in omega arith
-bit-other (suc i) (suc j) x n z = rw (halved i x) (bit-other i j (x / 2) (λ q. n (ap suc q)) z)
+bit_other zero zero x n z = absurd (n refl)
+bit_other zero (suc j) x n z = let e : (x + 1) / 2 ≡ x / 2 = omega (arith, z) in rw e
+bit_other (suc i) zero x n z = let e : 2 ^ suc i ≡ 2 * 2 ^ i = twice i in omega arith
+bit_other (suc i) (suc j) x n z = rw (halved i x) (bit_other i j (x / 2) (λ q. n (ap suc q)) z)
 
 shifted : (i x : ℕ) → x / 2 ^ i % 2 ≡ bit x i
 unfolding bit
@@ -54,70 +54,70 @@ shifted zero x = ap (λ (y : ℕ). y % 2) (div-one x)
 shifted (suc i) x = rw (twice i) (ap (λ (y : ℕ). y % 2) (sym (div-div-eq-div-mul x 2 (2 ^ i))) ∙ shifted i (x / 2))
 
 -- ---- what each bit counts is a power of two: so the code shifts
-pub power-two : (i : ℕ) → i < 8 → 2 ^ i ≡ power i
-power-two = each-bit (λ i. 2 ^ i ≡ power i) refl refl refl refl refl refl refl refl
+pub power_two : (i : ℕ) → i < 8 → 2 ^ i ≡ power i
+power_two = each_bit (λ i. 2 ^ i ≡ power i) refl refl refl refl refl refl refl refl
 
 pub shifted_one : (i : ℕ) → i < 8 → 1 * 2 ^ i % 2 ^ 8 ≡ power i
-shifted_one = each-bit (λ i. 1 * 2 ^ i % 2 ^ 8 ≡ power i) refl refl refl refl refl refl refl refl
+shifted_one = each_bit (λ i. 1 * 2 ^ i % 2 ^ 8 ≡ power i) refl refl refl refl refl refl refl refl
 
 bit_at : (i x : ℕ) → i < 8 → x / power i % 2 ≡ bit x i
-bit_at i x l = rw (← power-two i l) (shifted i x)
+bit_at i x l = rw (← power_two i l) (shifted i x)
 
-bit-new : (i x : ℕ) → i < 8 → (x / power i % 2 ≡ 1 → ⊥) → (x + power i) / power i % 2 ≡ 1
-bit-new i x l z = bit_at i (x + power i) l ∙ rw (← power-two i l) (bit_added i x (λ e. z (bit_at i x l ∙ e)))
+bit_new : (i x : ℕ) → i < 8 → (x / power i % 2 ≡ 1 → ⊥) → (x + power i) / power i % 2 ≡ 1
+bit_new i x l z = bit_at i (x + power i) l ∙ rw (← power_two i l) (bit_added i x (λ e. z (bit_at i x l ∙ e)))
 
 bit_kept : (i j x : ℕ) → i < 8 → j < 8 → (j ≡ i → ⊥) → (x / power i % 2 ≡ 1 → ⊥) → (x + power i) / power j % 2 ≡ x / power j % 2
-bit_kept i j x l m n z = bit_at j (x + power i) m ∙ rw (← power-two i l) (bit-other i j x n (λ e. z (bit_at i x l ∙ e))) ∙ sym (bit_at j x m)
+bit_kept i j x l m n z = bit_at j (x + power i) m ∙ rw (← power_two i l) (bit_other i j x n (λ e. z (bit_at i x l ∙ e))) ∙ sym (bit_at j x m)
 
 -- ---- a byte's bits
-pub bit-room : (x i : ℕ) → i < 8 → has_bit x i ≡ false → x < 2 ^ 8 → x + power i < 2 ^ 8
+pub bit_room : (x i : ℕ) → i < 8 → has_bit x i ≡ false → x < 2 ^ 8 → x + power i < 2 ^ 8
 unfolding has_bit
-bit-room x i l e h =
-    each-bit (λ i. (x / power i % 2 ≡ 1 → ⊥) → x + power i < 2 ^ 8)
+bit_room x i l e h =
+    each_bit (λ i. (x / power i % 2 ≡ 1 → ⊥) → x + power i < 2 ^ 8)
     (λ z. omega (arith, z)) (λ z. omega (arith, z)) (λ z. omega (arith, z)) (λ z. omega (arith, z)) (λ z. omega (arith, z)) (λ z. omega (arith, z)) (λ z. omega (arith, z)) (λ z. omega (arith, z))
     i l (eqb-false _ _ e)
 
-no-bit : (i : ℕ) → i < 8 → has_bit 0 i ≡ false
+no_bit : (i : ℕ) → i < 8 → has_bit 0 i ≡ false
 unfolding has_bit
-no-bit = each-bit (λ i. has_bit 0 i ≡ false) refl refl refl refl refl refl refl refl
+no_bit = each_bit (λ i. has_bit 0 i ≡ false) refl refl refl refl refl refl refl refl
 
-pub bit-missing : (x i : ℕ) → has_bit x i ≡ false → x + power i ≡ with_bit x i
+pub bit_missing : (x i : ℕ) → has_bit x i ≡ false → x + power i ≡ with_bit x i
 unfolding with_bit
-bit-missing x i e = rw e
+bit_missing x i e = rw e
 
-new-bit : (x i : ℕ) → i < 8 → has_bit x i ≡ false → has_bit (x + power i) i ≡ true
+new_bit : (x i : ℕ) → i < 8 → has_bit x i ≡ false → has_bit (x + power i) i ≡ true
 unfolding has_bit
-new-bit x i l e = eq-eqb _ 1 (bit-new i x l (eqb-false _ _ e))
+new_bit x i l e = eq-eqb _ 1 (bit_new i x l (eqb-false _ _ e))
 
-kept-bit : (x i j : ℕ) → i < 8 → j < 8 → (j ≡ i → ⊥) → has_bit x i ≡ false → has_bit (x + power i) j ≡ has_bit x j
+kept_bit : (x i j : ℕ) → i < 8 → j < 8 → (j ≡ i → ⊥) → has_bit x i ≡ false → has_bit (x + power i) j ≡ has_bit x j
 unfolding has_bit
-kept-bit x i j l m n e = ap (λ (b : ℕ). eqb b 1) (bit_kept i j x l m n (eqb-false _ _ e))
+kept_bit x i j l m n e = ap (λ (b : ℕ). eqb b 1) (bit_kept i j x l m n (eqb-false _ _ e))
 
-with-same : (x i : ℕ) → i < 8 → has_bit (with_bit x i) i ≡ true
+with_same : (x i : ℕ) → i < 8 → has_bit (with_bit x i) i ≡ true
 unfolding with_bit
-with-same x i l = by (has_bit x i) refl
+with_same x i l = by (has_bit x i) refl
   where
     by : (t : Bool) → has_bit x i ≡ t → has_bit (if has_bit x i then x else x + power i) i ≡ true
     by true e = rw e e
-    by false e = rw e (new-bit x i l e)
+    by false e = rw e (new_bit x i l e)
 
-with-other : (x i j : ℕ) → i < 8 → j < 8 → (j ≡ i → ⊥) → has_bit (with_bit x i) j ≡ has_bit x j
+with_other : (x i j : ℕ) → i < 8 → j < 8 → (j ≡ i → ⊥) → has_bit (with_bit x i) j ≡ has_bit x j
 unfolding with_bit
-with-other x i j l m n = by (has_bit x i) refl
+with_other x i j l m n = by (has_bit x i) refl
   where
     by : (t : Bool) → has_bit x i ≡ t → has_bit (if has_bit x i then x else x + power i) j ≡ has_bit x j
     by true e = rw e
-    by false e = rw e (kept-bit x i j l m n e)
+    by false e = rw e (kept_bit x i j l m n e)
 
 -- ---- sets of numbers
 module _ (s : List ℕ) (v : ℕ) where
-  pub length-with : length (with_number s v) ≡ length s
+  pub length_with : length (with_number s v) ≡ length s
   unfolding with_number
-  length-with = length-set s (v / 8) (with_bit (get_or s (v / 8) 0) (v % 8))
+  length_with = length-set s (v / 8) (with_bit (get_or s (v / 8) 0) (v % 8))
 
-  pub has-joined : v < 8 * length s → has_number (with_number s v) v ≡ true
+  pub has_joined : v < 8 * length s → has_number (with_number s v) v ≡ true
   unfolding has_number with_number
-  has-joined h = rw (get_or-set_same s (v / 8) (with_bit (get_or s (v / 8) 0) (v % 8)) 0 (omega arith)) (with-same (get_or s (v / 8) 0) (v % 8) (omega arith))
+  has_joined h = rw (get_or-set_same s (v / 8) (with_bit (get_or s (v / 8) 0) (v % 8)) 0 (omega arith)) (with_same (get_or s (v / 8) 0) (v % 8) (omega arith))
 
   -- every other number is in the set as it was
   pub has_other : (w : ℕ) → (w ≡ v → ⊥) → has_number (with_number s v) w ≡ has_number s w
@@ -131,7 +131,7 @@ module _ (s : List ℕ) (v : ℕ) where
           let q : w / 8 ≡ v / 8 = eqb-true (w / 8) (v / 8) e in
           let d : w % 8 ≡ v % 8 → ⊥ = λ r. n (omega (arith, q, r)) in
           rw (q, get_or-set_same s (v / 8) (with_bit (get_or s (v / 8) 0) (v % 8)) 0 (ltb-true (v / 8) (length s) f))
-          (with-other (get_or s (v / 8) 0) (v % 8) (w % 8) (omega arith) (omega arith) d)
+          (with_other (get_or s (v / 8) 0) (v % 8) (w % 8) (omega arith) (omega arith) d)
 
 zeros : (n k : ℕ) → ◌≡◌ {A = ℕ} (get_or (replicate n 0) k 0) 0
 zeros zero k = refl
@@ -139,6 +139,6 @@ zeros (suc n) zero = refl
 zeros (suc n) (suc k) = zeros n k
 
 -- no number is in a set that is all 0
-pub has-none : (n v : ℕ) → has_number (replicate n 0) v ≡ false
+pub has_none : (n v : ℕ) → has_number (replicate n 0) v ≡ false
 unfolding has_number
-has-none n v = rw (zeros n (v / 8)) (no-bit (v % 8) (omega arith))
+has_none n v = rw (zeros n (v / 8)) (no_bit (v % 8) (omega arith))

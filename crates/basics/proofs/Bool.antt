@@ -7,8 +7,8 @@ pub and_both : (a b : Bool) → (a && b) ≡ true → (a ≡ true) × (b ≡ tru
 and_both true b e = (refl, e)
 and_both false b e = absurd (false≢true e)
 
-pub both-and : {a b : Bool} → a ≡ true → b ≡ true → (a && b) ≡ true
-both-and p q = rw (p, q)
+pub both_and : {a b : Bool} → a ≡ true → b ≡ true → (a && b) ≡ true
+both_and p q = rw (p, q)
 
 pub and_assoc : (a b c : Bool) → ((a && b) && c) ≡ (a && (b && c))
 and_assoc true b c = refl
@@ -31,9 +31,9 @@ or_right true b e = absurd (true≢false e)
 or_right false b e = e
 
 -- one of two holds, and not the first
-pub or-second : (a b : Bool) → (a || b) ≡ true → a ≡ false → b ≡ true
-or-second true b h e = absurd (true≢false e)
-or-second false b h e = h
+pub or_second : (a b : Bool) → (a || b) ≡ true → a ≡ false → b ≡ true
+or_second true b h e = absurd (true≢false e)
+or_second false b h e = h
 
 -- what a branch on `!test(..)` tells of the definition that the test's answer r equals
 pub passed : {r t : Bool} → r ≡ t → not r ≡ false → t ≡ true

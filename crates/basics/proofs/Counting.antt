@@ -8,7 +8,7 @@ use mathlib.Core.Bool.{Bool, true}
 use mathlib.Core.List.{◌++◌, map}
 use lib.ListN.{length, get_or}
 use Rattle.basics.specs.Lists.{all_below, up_to}
-use Rattle.basics.proofs.Bool.{and_both, both-and}
+use Rattle.basics.proofs.Bool.{and_both, both_and}
 
 pub below_each : (n : ℕ) (test : ℕ → Bool) → all_below n test ≡ true → (i : ℕ) → i < n → test i ≡ true
 unfolding all_below
@@ -22,7 +22,7 @@ below_each (suc n) test h i l = at (λ k. below_each n test (and_both (all_below
 pub below_all : (n : ℕ) (test : ℕ → Bool) → ((i : ℕ) → i < n → test i ≡ true) → all_below n test ≡ true
 unfolding all_below
 below_all zero test h = refl
-below_all (suc n) test h = both-and (below_all n test (λ i l. h i (omega arith))) (h n (omega arith))
+below_all (suc n) test h = both_and (below_all n test (λ i l. h i (omega arith))) (h n (omega arith))
 
 -- the element of a list of `count` values, or the default behind it
 pub at_up : {A : Type 0} (Q : A → Type 0) (f : ℕ → A) (d : A) (start count i : ℕ) → (i < count → Q (f (start + i))) → Q d → Q (get_or (map f (up_to start count)) i d)
@@ -67,8 +67,8 @@ up_more f g start (suc count) more h =
     rw (e, s, h start (omega arith), up_more f g (suc start) count more (λ i l. h i (omega arith)))
 
 -- the same for as many as a larger number says
-pub up-goes-on : {A : Type 0} (f g : ℕ → A) (n m : ℕ) → n ≤ m → ((i : ℕ) → i < n → f i ≡ g i) → map f (up_to 0 m) ≡ map g (up_to 0 n) ++ map f (up_to n (m - n))
-up-goes-on f g n m l h =
+pub up_goes_on : {A : Type 0} (f g : ℕ → A) (n m : ℕ) → n ≤ m → ((i : ℕ) → i < n → f i ≡ g i) → map f (up_to 0 m) ≡ map g (up_to 0 n) ++ map f (up_to n (m - n))
+up_goes_on f g n m l h =
     let e : m ≡ n + (m - n) = omega arith in
     let z : 0 + n ≡ n = zero-add n in
     let all : map f (up_to 0 (n + (m - n))) ≡ map g (up_to 0 n) ++ map f (up_to (0 + n) (m - n)) = up_more f g 0 n (m - n) (λ i k. h i (omega arith)) in

@@ -7,7 +7,7 @@ use mathlib.Core.List.{List, ◌∷◌, ◌++◌, append-nil}
 use lib.ListN.{length, take, drop, set, length-set, length-drop, drop_of_length-le}
 use lib.Seq.{take_all, drop-cons, drop-set-lt, get_or-set_same, append_snoc}
 use Rattle.basics.specs.Basics.{nat2_string}
-use Rattle.basics.proofs.Digits.{nat-more, nat-last}
+use Rattle.basics.proofs.Digits.{nat_more, nat_last}
 
 -- as many digits as a number of 64 bits has at most
 abbrev pub most : ℕ
@@ -30,9 +30,9 @@ made_none n digits h l = record {
   long = l;
 }
 
-set-drop : (l : List ℕ) (k a : ℕ) → 1 ≤ k → k ≤ length l → drop (k - 1) (set l (k - 1) a) ≡ a ∷ drop k l
-set-drop l zero a h g = absurd (omega arith)
-set-drop l (suc i) a h g =
+set_drop : (l : List ℕ) (k a : ℕ) → 1 ≤ k → k ≤ length l → drop (k - 1) (set l (k - 1) a) ≡ a ∷ drop k l
+set_drop l zero a h g = absurd (omega arith)
+set_drop l (suc i) a h g =
     let e : suc i - 1 ≡ i = omega arith in
     rw e (
     drop-cons (set l i a) i 0 (omega (arith, length-set l i a))
@@ -56,9 +56,9 @@ made_more {n} {m} {k} {digits} d h =
       left = s.1;
       made =
           d.made
-          ∙ ap (λ (t : List ℕ). t ++ drop k digits) (nat-more m h)
+          ∙ ap (λ (t : List ℕ). t ++ drop k digits) (nat_more m h)
           ∙ append_snoc (nat2_string (m / 10)) (48 + m % 10) (drop k digits)
-          ∙ ap (λ (t : List ℕ). nat2_string (m / 10) ++ t) (sym (set-drop digits k (48 + m % 10) d.room (omega (arith, d.within, d.long))));
+          ∙ ap (λ (t : List ℕ). nat2_string (m / 10) ++ t) (sym (set_drop digits k (48 + m % 10) d.room (omega (arith, d.within, d.long))));
       long = length-set digits (k - 1) (48 + m % 10) ∙ d.long;
     }
 
@@ -67,6 +67,6 @@ pub made_all : {n m k : ℕ} {digits : List ℕ} → Made n m k digits → m < 1
 made_all {n} {m} {k} {digits} d h =
     let whole : List ℕ = set digits (k - 1) (48 + m) in
     take_all (most - (k - 1)) (drop (k - 1) whole) (simp (length-drop, length-set) (omega (arith, d.long)))
-    ∙ set-drop digits k (48 + m) d.room (omega (arith, d.within, d.long))
-    ∙ ap (λ (t : List ℕ). t ++ drop k digits) (sym (nat-last m h))
+    ∙ set_drop digits k (48 + m) d.room (omega (arith, d.within, d.long))
+    ∙ ap (λ (t : List ℕ). t ++ drop k digits) (sym (nat_last m h))
     ∙ sym d.made

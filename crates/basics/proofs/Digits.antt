@@ -16,28 +16,28 @@ same_digits (suc f) zero (suc n) h k = absurd (omega arith)
 same_digits (suc f) (suc g) zero h k = refl
 same_digits (suc f) (suc g) (suc n) h k = rw (same_digits f g (suc n / 10) (omega arith) (omega arith))
 
-pub fuel-enough : (fuel x : ℕ) → x ≤ fuel → int2_string_no_leading_zero fuel x ≡ int2_string_no_leading_zero x x
-fuel-enough fuel x h = same_digits fuel x x h (omega arith)
+pub fuel_enough : (fuel x : ℕ) → x ≤ fuel → int2_string_no_leading_zero fuel x ≡ int2_string_no_leading_zero x x
+fuel_enough fuel x h = same_digits fuel x x h (omega arith)
 
 pub digits_step : (x : ℕ) → (x ≡ 0 → ⊥) → int2_string_no_leading_zero x x ≡ int2_string_no_leading_zero (x / 10) (x / 10) ++ ((48 + x % 10) ∷ [])
 unfolding int2_string_no_leading_zero
 digits_step zero h = absurd (h refl)
-digits_step (suc n) h = rw (fuel-enough n (suc n / 10) (omega arith))
+digits_step (suc n) h = rw (fuel_enough n (suc n / 10) (omega arith))
 
-nat-digits : (x : ℕ) → 0 < x → nat2_string x ≡ int2_string_no_leading_zero x x
+nat_digits : (x : ℕ) → 0 < x → nat2_string x ≡ int2_string_no_leading_zero x x
 unfolding nat2_string
-nat-digits zero h = absurd (omega arith)
-nat-digits (suc n) h = refl
+nat_digits zero h = absurd (omega arith)
+nat_digits (suc n) h = refl
 
-pub nat-more : (x : ℕ) → 10 ≤ x → nat2_string x ≡ nat2_string (x / 10) ++ ((48 + x % 10) ∷ [])
-nat-more x h =
-    nat-digits x (omega arith) ∙ digits_step x (λ e. omega arith)
-    ∙ ap (λ (t : Text). t ++ ((48 + x % 10) ∷ [])) (sym (nat-digits (x / 10) (omega arith)))
+pub nat_more : (x : ℕ) → 10 ≤ x → nat2_string x ≡ nat2_string (x / 10) ++ ((48 + x % 10) ∷ [])
+nat_more x h =
+    nat_digits x (omega arith) ∙ digits_step x (λ e. omega arith)
+    ∙ ap (λ (t : Text). t ++ ((48 + x % 10) ∷ [])) (sym (nat_digits (x / 10) (omega arith)))
 
-pub nat-last : (x : ℕ) → x < 10 → nat2_string x ≡ (48 + x) ∷ []
+pub nat_last : (x : ℕ) → x < 10 → nat2_string x ≡ (48 + x) ∷ []
 unfolding nat2_string int2_string_no_leading_zero
-nat-last zero h = refl
-nat-last (suc n) h =
+nat_last zero h = refl
+nat_last (suc n) h =
     let q : suc n / 10 ≡ 0 = omega arith in
     let r : suc n % 10 ≡ suc n = omega arith in
     digits_step (suc n) (λ e. omega arith) ∙ rw (q, r)

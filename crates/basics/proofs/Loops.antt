@@ -30,20 +30,20 @@ module _ (test : ℕ → Bool) where
   all_more i {r} h e t = rw (add-one i, h, ← e) (not-false r t)
 
   -- the turn whose test failed
-  pub all-stop : (n i : ℕ) {r : Bool} → r ≡ test i → not r ≡ true → i < n → false ≡ all_below n test
-  all-stop n i {r} e t l = sym (below_fails test n i l (sym e ∙ not-true r t))
+  pub all_stop : (n i : ℕ) {r : Bool} → r ≡ test i → not r ≡ true → i < n → false ≡ all_below n test
+  all_stop n i {r} e t l = sym (below_fails test n i l (sym e ∙ not-true r t))
 
   -- past the last
   pub all_done : (n i : ℕ) → all_below i test ≡ true → i ≡ n → true ≡ all_below n test
   all_done n i h q = rw q at (sym h)
 
-below-first : (n : ℕ) (test : ℕ → Bool) → all_below (suc n) test ≡ (test 0 && all_below n (λ i. test (suc i)))
+below_first : (n : ℕ) (test : ℕ → Bool) → all_below (suc n) test ≡ (test 0 && all_below n (λ i. test (suc i)))
 unfolding all_below
-below-first zero test = sym (and-true (test 0))
-below-first (suc n) test = rw (below-first n test) (and_assoc (test 0) (all_below n (λ i. test (suc i))) (test (suc n)))
+below_first zero test = sym (and-true (test 0))
+below_first (suc n) test = rw (below_first n test) (and_assoc (test 0) (all_below n (λ i. test (suc i))) (test (suc n)))
 
 -- a test of every element goes by the elements' places
-pub all-places : {A : Type 0} (xs : List A) (test : A → Bool) (d : A) → all_below (length xs) (λ i. test (get_or xs i d)) ≡ all xs test
+pub all_places : {A : Type 0} (xs : List A) (test : A → Bool) (d : A) → all_below (length xs) (λ i. test (get_or xs i d)) ≡ all xs test
 unfolding all_below all
-all-places [] test d = refl
-all-places (x ∷ xs) test d = below-first (length xs) (λ i. test (get_or (x ∷ xs) i d)) ∙ rw (all-places xs test d)
+all_places [] test d = refl
+all_places (x ∷ xs) test d = below_first (length xs) (λ i. test (get_or (x ∷ xs) i d)) ∙ rw (all_places xs test d)

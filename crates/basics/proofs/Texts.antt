@@ -16,45 +16,45 @@ unfolding same
 same_refl [] = refl
 same_refl (c ∷ t) = rw (eq-eqb c c refl, same_refl t)
 
-pub same-eq : (a b : Text) → same a b ≡ true → a ≡ b
+pub same_eq : (a b : Text) → same a b ≡ true → a ≡ b
 unfolding same
-same-eq [] [] e = refl
-same-eq [] (y ∷ b) e = absurd (false≢true e)
-same-eq (x ∷ a) [] e = absurd (false≢true e)
-same-eq (x ∷ a) (y ∷ b) e =
+same_eq [] [] e = refl
+same_eq [] (y ∷ b) e = absurd (false≢true e)
+same_eq (x ∷ a) [] e = absurd (false≢true e)
+same_eq (x ∷ a) (y ∷ b) e =
     let r = and_both (eqb x y) (same a b) e in
-    ap₂ {B = List ℕ} {C = List ℕ} (λ c d. c ∷ d) (eqb-true x y r.0) (same-eq a b r.1)
+    ap₂ {B = List ℕ} {C = List ℕ} (λ c d. c ∷ d) (eqb-true x y r.0) (same_eq a b r.1)
 
-pub same-yes : {a b : Text} → a ≡ b → true ≡ same a b
-same-yes {a} {b} e = rw e (sym (same_refl b))
+pub same_yes : {a b : Text} → a ≡ b → true ≡ same a b
+same_yes {a} {b} e = rw e (sym (same_refl b))
 
-pub same-no : (a b : Text) → (a ≡ b → ⊥) → false ≡ same a b
-same-no a b h = at (same a b) refl
+pub same_no : (a b : Text) → (a ≡ b → ⊥) → false ≡ same a b
+same_no a b h = at (same a b) refl
   where
     at : (t : Bool) → same a b ≡ t → false ≡ t
-    at true e = absurd (h (same-eq a b e))
+    at true e = absurd (h (same_eq a b e))
     at false e = refl
 
 pub same_length : (a b : Text) → (length a ≡ length b → ⊥) → false ≡ same a b
-same_length a b h = same-no a b (λ e. h (ap length e))
+same_length a b h = same_no a b (λ e. h (ap length e))
 
 pub same_byte : (a b : Text) (i : ℕ) → (get_or a i 0 ≡ get_or b i 0 → ⊥) → false ≡ same a b
-same_byte a b i h = same-no a b (λ e. h (ap (λ (l : Text). get_or l i 0) e))
+same_byte a b i h = same_no a b (λ e. h (ap (λ (l : Text). get_or l i 0) e))
 
 pub same_bytes : (a b : Text) (i : ℕ) → length a ≡ length b → length a ≤ i → ((k : ℕ) → k < i → get_or a k 0 ≡ get_or b k 0) → true ≡ same a b
-same_bytes a b i l h e = same-yes (ext_get_or 0 a b l (λ k j. e k (omega arith)))
+same_bytes a b i l h e = same_yes (ext_get_or 0 a b l (λ k j. e k (omega arith)))
 
-pub same-sym : (a b : Text) → same a b ≡ same b a
-same-sym a b = at (same a b) refl
+pub same_sym : (a b : Text) → same a b ≡ same b a
+same_sym a b = at (same a b) refl
   where
     at : (t : Bool) → same a b ≡ t → t ≡ same b a
-    at true e = same-yes (sym (same-eq a b e))
-    at false e = same-no b a (λ q. false≢true (sym e ∙ sym (same-yes (sym q))))
+    at true e = same_yes (sym (same_eq a b e))
+    at false e = same_no b a (λ q. false≢true (sym e ∙ sym (same_yes (sym q))))
 
 -- parts of one length are compared one by one
-pub same-append : (a b x y : Text) → length a ≡ length b → same (a ++ x) (b ++ y) ≡ (same a b && same x y)
+pub same_append : (a b x y : Text) → length a ≡ length b → same (a ++ x) (b ++ y) ≡ (same a b && same x y)
 unfolding same
-same-append [] [] x y e = refl
-same-append [] (d ∷ b) x y e = absurd (omega arith)
-same-append (c ∷ a) [] x y e = absurd (omega arith)
-same-append (c ∷ a) (d ∷ b) x y e = rw (same-append a b x y (omega arith)) (sym (and_assoc (eqb c d) (same a b) (same x y)))
+same_append [] [] x y e = refl
+same_append [] (d ∷ b) x y e = absurd (omega arith)
+same_append (c ∷ a) [] x y e = absurd (omega arith)
+same_append (c ∷ a) (d ∷ b) x y e = rw (same_append a b x y (omega arith)) (sym (and_assoc (eqb c d) (same a b) (same x y)))

@@ -14,10 +14,10 @@ unfolding overlay
 put_some b [] h = absurd (omega arith)
 put_some b (x ∷ o) h = record { counted = refl; shown = refl }
 
-pub put-none : (b : ℕ) (o : List ℕ) → length o ≤ 0 → Wrote (b ∷ []) o o 1
+pub put_none : (b : ℕ) (o : List ℕ) → length o ≤ 0 → Wrote (b ∷ []) o o 1
 unfolding overlay
-put-none b [] h = record { counted = refl; shown = refl }
-put-none b (x ∷ o) h = absurd (omega arith)
+put_none b [] h = record { counted = refl; shown = refl }
+put_none b (x ∷ o) h = absurd (omega arith)
 
 -- o1 has the first i bytes of t
 abbrev pub Begun : Text → ℕ → (o o1 : List ℕ) → Type 0
@@ -54,16 +54,16 @@ begun_all t o i r e h c = record { counted = c; shown = e ∙ clipped t o i h }
 abbrev pub BegunRepeat : (b n i : ℕ) → (o o1 : List ℕ) → Type 0
 BegunRepeat b n i o o1 = (count : ℕ) → n ≡ min count MOST → Begun (replicate count b) i o o1
 
-pub repeat-begun : (b n : ℕ) (o : List ℕ) → BegunRepeat b n 0 o o
-repeat-begun b n o count e = begun (replicate count b) o
+pub repeat_begun : (b n : ℕ) (o : List ℕ) → BegunRepeat b n 0 o o
+repeat_begun b n o count e = begun (replicate count b) o
 
-pub repeat-more : (b n : ℕ) (o : List ℕ) {o1 : List ℕ} (i : ℕ) → BegunRepeat b n i o o1 → i < n → i < length o → BegunRepeat b n (i + 1) o (set o1 i b)
-repeat-more b n o {o1} i w h g count e =
+pub repeat_more : (b n : ℕ) (o : List ℕ) {o1 : List ℕ} (i : ℕ) → BegunRepeat b n i o o1 → i < n → i < length o → BegunRepeat b n (i + 1) o (set o1 i b)
+repeat_more b n o {o1} i w h g count e =
     let s : get_or {A = ℕ} (replicate count b) i 0 ≡ b = get_or-replicate count i b 0 (omega arith) in
     rw s at (begun_more (replicate count b) o i (w count e) (omega (arith, length-replicate {A = ℕ} count b)) g)
 
-pub repeat-all : (b n : ℕ) (o : List ℕ) {o1 : List ℕ} (i : ℕ) → BegunRepeat b n i o o1 → length o < MOST + 1 → min n (length o) ≤ i → WroteRepeat b n o o1 n
-repeat-all b n o {o1} i w short h = record { text = whole }
+pub repeat_all : (b n : ℕ) (o : List ℕ) {o1 : List ℕ} (i : ℕ) → BegunRepeat b n i o o1 → length o < MOST + 1 → min n (length o) ≤ i → WroteRepeat b n o o1 n
+repeat_all b n o {o1} i w short h = record { text = whole }
   where
     whole : (count : ℕ) → n ≡ min count MOST → Wrote (replicate count b) o o1 n
     whole count e =

@@ -7,12 +7,12 @@ use Rattle.book.specs.Program.{Program, axiom_at, node_at, path_up, path}
 use Rattle.book.specs.Extends.{Extends}
 
 module _ (p q : Program) (E : Extends p q) where
-  pub axiom_at-kept : (k : ℕ) → axiom_at q k ≡ axiom_at p k
-  axiom_at-kept k = rw E.same-axioms
+  pub axiom_at_kept : (k : ℕ) → axiom_at q k ≡ axiom_at p k
+  axiom_at_kept k = rw E.same_axioms
 
-  pub node_at-kept : (n : ℕ) → n < length p.contexts → node_at q (suc n) ≡ node_at p (suc n)
+  pub node_at_kept : (n : ℕ) → n < length p.contexts → node_at q (suc n) ≡ node_at p (suc n)
   unfolding node_at
-  node_at-kept n h = let e : suc n - 1 ≡ n = omega arith in rw (e, E.more-contexts) (get_or-append p.contexts E.new-contexts _ n h)
+  node_at_kept n h = let e : suc n - 1 ≡ n = omega arith in rw (e, E.more_contexts) (get_or-append p.contexts E.new-contexts _ n h)
 
   -- a parent's number is smaller
   module _ (below : (n : ℕ) → n < length p.contexts → (node_at p (suc n)).parent ≤ n) where
@@ -20,8 +20,8 @@ module _ (p q : Program) (E : Extends p q) where
     unfolding path_up
     up_kept zero node h = refl
     up_kept (suc fuel) zero h = refl
-    up_kept (suc fuel) (suc n) h = rw (node_at-kept n h, up_kept fuel (node_at p (suc n)).parent (omega (arith, below n h)))
+    up_kept (suc fuel) (suc n) h = rw (node_at_kept n h, up_kept fuel (node_at p (suc n)).parent (omega (arith, below n h)))
 
-    pub path-kept : (node : ℕ) → node ≤ length p.contexts → path q node ≡ path p node
+    pub path_kept : (node : ℕ) → node ≤ length p.contexts → path q node ≡ path p node
     unfolding path
-    path-kept node h = up_kept node node h
+    path_kept node h = up_kept node node h

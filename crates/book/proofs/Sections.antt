@@ -39,9 +39,9 @@ module _ (b : Book) (n : ℕ) (known : n < 10) where
   unfolding offset
   offset_at = rw (tabled n known).number
 
-  pub size-at : word b (8 * n + 4) ≡ size b (section_at n)
+  pub size_at : word b (8 * n + 4) ≡ size b (section_at n)
   unfolding size
-  size-at = rw (tabled n known).number
+  size_at = rw (tabled n known).number
 
   pub field_at : (k i : ℕ) → word b (offset b (section_at n) + get_or sizes n 0 * k + 4 * i) ≡ field b (section_at n) k i
   unfolding field

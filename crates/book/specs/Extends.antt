@@ -6,8 +6,8 @@ use Rattle.book.specs.Program.{Context, Program}
 
 -- q has p's axioms, and p's literals and contexts with more behind
 pub record Extends (p q : Program) : Type 0 where
-  pub same-axioms : q.axioms ≡ p.axioms
-  pub new-literals : List (Option Literal)
-  pub more-literals : q.literals ≡ p.literals ++ new-literals
+  pub same_axioms : q.axioms ≡ p.axioms
+  pub new_literals : List (Option Literal)
+  pub more_literals : q.literals ≡ p.literals ++ new_literals
   pub new-contexts : List Context
-  pub more-contexts : q.contexts ≡ p.contexts ++ new-contexts
+  pub more_contexts : q.contexts ≡ p.contexts ++ new-contexts

@@ -17,16 +17,16 @@ pub record Laid (b : Book) (s : Section) : Type 0 where
 
 -- so do all sections
 pub record AllLaid (b : Book) : Type 0 where
-  pub letters-laid : Laid b letters
-  pub names-laid : Laid b names
-  pub types-laid : Laid b types
-  pub constants-laid : Laid b constants
-  pub functions-laid : Laid b functions
-  pub axioms-laid : Laid b axioms
-  pub patterns-laid : Laid b patterns
-  pub terms-laid : Laid b terms
-  pub contexts-laid : Laid b contexts
-  pub lists-laid : Laid b lists
+  pub letters_laid : Laid b letters
+  pub names_laid : Laid b names
+  pub types_laid : Laid b types
+  pub constants_laid : Laid b constants
+  pub functions_laid : Laid b functions
+  pub axioms_laid : Laid b axioms
+  pub patterns_laid : Laid b patterns
+  pub terms_laid : Laid b terms
+  pub contexts_laid : Laid b contexts
+  pub lists_laid : Laid b lists
 
 -- field i of record k of section s can be read
 pub record Holds (b : Book) (s : Section) (k i : ℕ) : Type 0 where

@@ -13,14 +13,14 @@ use Rattle.book.proofs.Sections.{sizes, tabled}
 use Rattle.book_contents.specs.Contents.{laid_from}
 
 module _ (b : Book) (at n : ℕ) where
-  pub order-stop : n < 10 → (offset b (section_at n) ≡ at → ⊥) → laid_from b at (drop n sections) ≡ false
+  pub order_stop : n < 10 → (offset b (section_at n) ≡ at → ⊥) → laid_from b at (drop n sections) ≡ false
   unfolding laid_from
-  order-stop h ne = rw (drop-cons sections n letters h, ne_eqb (offset b (section_at n)) at ne)
+  order_stop h ne = rw (drop-cons sections n letters h, ne_eqb (offset b (section_at n)) at ne)
 
-  pub order-more : n < 10 → offset b (section_at n) ≡ at → laid_from b (at + get_or sizes n 0 * size b (section_at n)) (drop (n + 1) sections) ≡ laid_from b at (drop n sections)
+  pub order_more : n < 10 → offset b (section_at n) ≡ at → laid_from b (at + get_or sizes n 0 * size b (section_at n)) (drop (n + 1) sections) ≡ laid_from b at (drop n sections)
   unfolding laid_from
-  order-more h e = rw (add-one n, drop-cons sections n letters h, eq-eqb (offset b (section_at n)) at e, (tabled n h).size)
+  order_more h e = rw (add-one n, drop-cons sections n letters h, eq-eqb (offset b (section_at n)) at e, (tabled n h).size)
 
-  pub order-done : n ≡ 10 → laid_from b at (drop n sections) ≡ eqb at (length b)
+  pub order_done : n ≡ 10 → laid_from b at (drop n sections) ≡ eqb at (length b)
   unfolding laid_from
-  order-done e = rw e
+  order_done e = rw e

@@ -18,9 +18,9 @@ pub record Known (b : Book) (ds : List ℕ) (i : ℕ) : Type 0 where
   pub long : length ds ≡ contexts.most + 1
   pub each : (k : ℕ) → k ≤ i → get_or ds k 0 ≡ node_depth b k
 
-pub root-known : (b : Book) (ds : List ℕ) → ds ≡ replicate (contexts.most + 1) 0 → Known b ds 0
+pub root_known : (b : Book) (ds : List ℕ) → ds ≡ replicate (contexts.most + 1) 0 → Known b ds 0
 unfolding node_depth steps
-root-known b ds e =
+root_known b ds e =
     record {
       long = ap {B = ℕ} length e ∙ length-replicate {A = ℕ} (contexts.most + 1) 0;
       each = λ k l. let z : k ≡ 0 = omega arith in rw (z, e);
@@ -40,18 +40,18 @@ module _ (b : Book) (R : Rooted b) where
       let p : field b contexts i 0 ≤ i = R.parent i l in
       ap suc (enough f g (field b contexts i 0) (omega arith) (omega arith) (omega arith))
 
-  below-parent : (i : ℕ) → i < size b contexts → node_depth b (suc i) ≡ suc (node_depth b (field b contexts i 0))
+  below_parent : (i : ℕ) → i < size b contexts → node_depth b (suc i) ≡ suc (node_depth b (field b contexts i 0))
   unfolding node_depth steps
-  below-parent i l =
+  below_parent i l =
       let p : field b contexts i 0 ≤ i = R.parent i l in
       ap suc (enough i (field b contexts i 0) (field b contexts i 0) p (omega arith) (omega arith))
 
   -- the next node, whose parent p has depth d
   module _ (ds : List ℕ) (i p : ℕ) (known : Known b ds i) (l : i < size b contexts) (e : p ≡ field b contexts i 0) where
-    next-depth : node_depth b (suc i) ≡ suc (get_or ds p 0)
-    next-depth =
+    next_depth : node_depth b (suc i) ≡ suc (get_or ds p 0)
+    next_depth =
         let h : p ≤ i = omega (arith, R.parent i l) in
-        below-parent i l ∙ rw (← e) (ap suc (sym (known.each p h)))
+        below_parent i l ∙ rw (← e) (ap suc (sym (known.each p h)))
 
     pub next_known : i + 1 < contexts.most + 1 → Known b (set ds (i + 1) (get_or ds p 0 + 1)) (i + 1)
     next_known s = record { long = length-set ds (i + 1) (get_or ds p 0 + 1) ∙ known.long; each = λ k h. by k h (ℕ_discrete k (i + 1)) }
@@ -59,13 +59,13 @@ module _ (b : Book) (R : Rooted b) where
         by : (k : ℕ) → k ≤ i + 1 → Dec (k ≡ i + 1) → get_or (set ds (i + 1) (get_or ds p 0 + 1)) k 0 ≡ node_depth b k
         by k h (yes q) =
             rw (q, get_or-set_same ds (i + 1) (get_or ds p 0 + 1) 0 (omega (arith, known.long)))
-            (add-one (get_or ds p 0) ∙ sym next-depth ∙ ap (node_depth b) (sym (add-one i)))
+            (add-one (get_or ds p 0) ∙ sym next_depth ∙ ap (node_depth b) (sym (add-one i)))
         by k h (no q) = get_or-set_other ds (i + 1) k (get_or ds p 0 + 1) 0 q ∙ known.each k (omega arith)
 
-    pub next-shallow : get_or ds p 0 < depth_most → is_shallow b i ≡ true
+    pub next_shallow : get_or ds p 0 < depth_most → is_shallow b i ≡ true
     unfolding is_shallow
-    next-shallow h = rw next-depth (le-leb (suc (get_or ds p 0)) depth_most h)
+    next_shallow h = rw next_depth (le-leb (suc (get_or ds p 0)) depth_most h)
 
-    pub next-deep : depth_most ≤ get_or ds p 0 → is_shallow b i ≡ false
+    pub next_deep : depth_most ≤ get_or ds p 0 → is_shallow b i ≡ false
     unfolding is_shallow
-    next-deep h = rw next-depth (lt-leb (suc (get_or ds p 0)) depth_most (omega arith))
+    next_deep h = rw next_depth (lt-leb (suc (get_or ds p 0)) depth_most (omega arith))

@@ -4,32 +4,32 @@ use mathlib.Core.Path.{◌≡◌, ap}
 use mathlib.Core.Bool.{true, false}
 use mathlib.Core.List.{List}
 use lib.ListN.{length, replicate}
-use Rattle.basics.proofs.Bits.{length-with, has-joined, has_other, has-none}
+use Rattle.basics.proofs.Bits.{length_with, has_joined, has_other, has_none}
 use Rattle.book_forest.specs.Marks.{is_marked, set_mark, room}
 
 module _ (m : List ℕ) (t : ℕ) where
-  pub marked-same : t < room m → is_marked (set_mark m t) t ≡ true
+  pub marked_same : t < room m → is_marked (set_mark m t) t ≡ true
   unfolding is_marked set_mark room
-  marked-same l = has-joined m t l
+  marked_same l = has_joined m t l
 
   pub marked_other : (k : ℕ) → (k ≡ t → ⊥) → is_marked (set_mark m t) k ≡ is_marked m k
   unfolding is_marked set_mark
   marked_other k n = has_other m t k n
 
-  pub room-marked : room (set_mark m t) ≡ room m
+  pub room_marked : room (set_mark m t) ≡ room m
   unfolding set_mark room
-  room-marked = ap (λ (n : ℕ). 8 * n) (length-with m t)
+  room_marked = ap (λ (n : ℕ). 8 * n) (length_with m t)
 
   pub length_marked : length (set_mark m t) ≡ length m
   unfolding set_mark
-  length_marked = length-with m t
+  length_marked = length_with m t
 
 -- no term is marked where all is 0
-pub none-marked : (n k : ℕ) → is_marked (replicate n 0) k ≡ false
+pub none_marked : (n k : ℕ) → is_marked (replicate n 0) k ≡ false
 unfolding is_marked
-none-marked n k = has-none n k
+none_marked n k = has_none n k
 
 -- a scratch has room for eight marks in each byte
-pub room-enough : (n : ℕ) (m : List ℕ) → n ≤ 8 * length m → n ≤ room m
+pub room_enough : (n : ℕ) (m : List ℕ) → n ≤ 8 * length m → n ≤ room m
 unfolding room
-room-enough n m h = h
+room_enough n m h = h

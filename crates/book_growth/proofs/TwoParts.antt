@@ -12,11 +12,11 @@ use borrow.Author.Tests.{lt-leb}
 use Rattle.basics.specs.Write.{MOST}
 use Rattle.book.specs.Book.{Book, size}
 use Rattle.book.specs.Laid.{section_at, section_count}
-use Rattle.book.proofs.EachSection.{size-positive}
+use Rattle.book.proofs.EachSection.{size_positive}
 use Rattle.book_layout.specs.Layout.{count_of}
 use Rattle.book_growth.specs.Growth.{Addition, added, grows_by, grows_within}
 use Rattle.book_growth.specs.Parts.{count_within}
-use Rattle.book_growth.proofs.Written.{grows-each}
+use Rattle.book_growth.proofs.Written.{grows_each}
 
 -- a sum that stayed at MOST is over every limit, as the sum itself
 stayed : (k x s most : ℕ) {r : ℕ} → 1 ≤ s → suc most * s ≤ MOST → r ≡ min x MOST → leb (k + r / s) most ≡ leb (k + x / s) most
@@ -31,28 +31,28 @@ stayed k x s most {r} one small e = at (dec_le x MOST)
 
 -- section n's new bytes, in two parts x and y
 module _ (b : Book) (n : ℕ) (known : n < section_count) (x y : List ℕ) where
-  pub parts-count : size b (section_at n) + (length x + length y) / (section_at n).size ≡ size b (section_at n) + length (x ++ y) / (section_at n).size
-  parts-count = rw (length-append x y)
+  pub parts_count : size b (section_at n) + (length x + length y) / (section_at n).size ≡ size b (section_at n) + length (x ++ y) / (section_at n).size
+  parts_count = rw (length-append x y)
 
-  pub parts-sum : {r : ℕ} {z : Bool} → suc (section_at n).most * (section_at n).size ≤ MOST → r ≡ min (length x + length y) MOST → z ≡ count_within b (section_at n) r
+  pub parts_sum : {r : ℕ} {z : Bool} → suc (section_at n).most * (section_at n).size ≤ MOST → r ≡ min (length x + length y) MOST → z ≡ count_within b (section_at n) r
       → z ≡ count_within b (section_at n) (length (x ++ y))
   unfolding count_within
-  parts-sum small e told =
+  parts_sum small e told =
       let s = section_at n in
-      rw (length-append x y) (told ∙ stayed (size b s) (length x + length y) s.size s.most (size-positive n known) small e)
+      rw (length-append x y) (told ∙ stayed (size b s) (length x + length y) s.size s.most (size_positive n known) small e)
 
   -- of an addition that has them there
   module _ (a : Addition) (are : added a (section_at n) ≡ x ++ y) where
-    pub parts-grow : grows_within b a ≡ true → size b (section_at n) + (length x + length y) / (section_at n).size ≤ (section_at n).most
-    parts-grow fits = rw (← length-append x y, ← are) (grows-each b a fits n known)
+    pub parts_grow : grows_within b a ≡ true → size b (section_at n) + (length x + length y) / (section_at n).size ≤ (section_at n).most
+    parts_grow fits = rw (← length-append x y, ← are) (grows_each b a fits n known)
 
     pub parts_within : {r : ℕ} {z : Bool} → suc (section_at n).most * (section_at n).size ≤ MOST → r ≡ min (length x + length y) MOST → z ≡ count_within b (section_at n) r
         → z ≡ grows_by b a n
     unfolding grows_by count_of count_within
-    parts_within small e told = rw are (parts-sum small e told)
+    parts_within small e told = rw are (parts_sum small e told)
 
-pub front-parts : (b0 l m b1n b2 b3c b4 : List ℕ) → ((((((b0 ++ l) ++ m) ++ b1n) ++ b2) ++ b3c) ++ b4) ≡ b0 ++ (l ++ m) ++ b1n ++ b2 ++ b3c ++ b4
-front-parts b0 l m b1n b2 b3c b4 = simp append_assoc
+pub front_parts : (b0 l m b1n b2 b3c b4 : List ℕ) → ((((((b0 ++ l) ++ m) ++ b1n) ++ b2) ++ b3c) ++ b4) ≡ b0 ++ (l ++ m) ++ b1n ++ b2 ++ b3c ++ b4
+front_parts b0 l m b1n b2 b3c b4 = simp append_assoc
 
-pub back-parts : (b5 b6 b7t b8x b9 e f : List ℕ) → (((((b5 ++ b6) ++ b7t) ++ b8x) ++ (b9 ++ e)) ++ f) ≡ b5 ++ b6 ++ b7t ++ b8x ++ (b9 ++ (e ++ f))
-back-parts b5 b6 b7t b8x b9 e f = simp append_assoc
+pub back_parts : (b5 b6 b7t b8x b9 e f : List ℕ) → (((((b5 ++ b6) ++ b7t) ++ b8x) ++ (b9 ++ e)) ++ f) ≡ b5 ++ b6 ++ b7t ++ b8x ++ (b9 ++ (e ++ f))
+back_parts b5 b6 b7t b8x b9 e f = simp append_assoc

@@ -9,11 +9,11 @@ use lib.Dec.{leb}
 use lib.ListN.{length, get_or}
 use borrow.Author.Tests.{le-leb, lt-leb}
 use Rattle.basics.proofs.Counting.{below_all}
-use Rattle.basics.proofs.Loops.{all-stop}
+use Rattle.basics.proofs.Loops.{all_stop}
 use Rattle.book.specs.Book.{Book, letters, names, types, constants, functions, axioms, patterns, terms, contexts, lists, size}
 use Rattle.book.specs.Laid.{section_at, section_count, Laid, AllLaid, Reads}
 use Rattle.book.proofs.Sections.{sizes, limits, tabled}
-use Rattle.book.proofs.EachSection.{each-section}
+use Rattle.book.proofs.EachSection.{each_section}
 use Rattle.book_layout.specs.Layout.{count_of}
 use Rattle.book_growth.specs.Growth.{addition, added, grows_by, grows_within}
 use Rattle.book_growth.specs.Parts.{count_within}
@@ -35,18 +35,18 @@ within_by b n {k} more known laid many =
 
 module _ (b : Book) (l n c t x e : List ℕ) where
   -- the four sections that don't grow stay within their limits
-  pub all-within : AllLaid b → count_within b letters (length l) ≡ true → count_within b names (length n) ≡ true → count_within b constants (length c) ≡ true
+  pub all_within : AllLaid b → count_within b letters (length l) ≡ true → count_within b names (length n) ≡ true → count_within b constants (length c) ≡ true
       → count_within b terms (length t) ≡ true → count_within b contexts (length x) ≡ true → count_within b lists (length e) ≡ true
       → true ≡ grows_within b (addition l n c t x e)
   unfolding grows_within grows_by count_of added count_within
-  all-within L h0 h1 h3 h7 h8 h9 =
+  all_within L h0 h1 h3 h7 h8 h9 =
       sym
       (below_all section_count (grows_by b (addition l n c t x e))
-      (each-section (λ k. grows_by b (addition l n c t x e) k ≡ true) h0 h1 (le-leb (size b types + 0) 64 (omega (arith, L.types-laid.few))) h3
-      (le-leb (size b functions + 0) 128 (omega (arith, L.functions-laid.few))) (le-leb (size b axioms + 0) 128 (omega (arith, L.axioms-laid.few)))
-      (le-leb (size b patterns + 0) 128 (omega (arith, L.patterns-laid.few))) h7 h8 h9))
+      (each_section (λ k. grows_by b (addition l n c t x e) k ≡ true) h0 h1 (le-leb (size b types + 0) 64 (omega (arith, L.types_laid.few))) h3
+      (le-leb (size b functions + 0) 128 (omega (arith, L.functions_laid.few))) (le-leb (size b axioms + 0) 128 (omega (arith, L.axioms_laid.few)))
+      (le-leb (size b patterns + 0) 128 (omega (arith, L.patterns_laid.few))) h7 h8 h9))
 
   -- a section that is over
-  pub one-over : (k : ℕ) {r : Bool} → k < section_count → r ≡ grows_by b (addition l n c t x e) k → not r ≡ true → false ≡ grows_within b (addition l n c t x e)
+  pub one_over : (k : ℕ) {r : Bool} → k < section_count → r ≡ grows_by b (addition l n c t x e) k → not r ≡ true → false ≡ grows_within b (addition l n c t x e)
   unfolding grows_within
-  one-over k known told over = all-stop (grows_by b (addition l n c t x e)) section_count k told over known
+  one_over k known told over = all_stop (grows_by b (addition l n c t x e)) section_count k told over known

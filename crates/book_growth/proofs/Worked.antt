@@ -23,9 +23,9 @@ unfolding everything
 empty_book = assembled no_bodies
 
 -- ten times the offset 80 and no records
-empty-is : empty_book ≡ join_below 10 (λ n. 80 ∷ replicate 7 0)
+empty_is : empty_book ≡ join_below 10 (λ n. 80 ∷ replicate 7 0)
 unfolding everything empty_book
-empty-is = refl
+empty_is = refl
 
 -- the probe name, `=` and the trace; `true`, the probe and their equality; the node
 point : Addition
@@ -47,30 +47,30 @@ point_book : Book
 unfolding everything empty_book point
 point_book = grown empty_book point
 
-point-length : length point_book ≡ 229
+point_length : length point_book ≡ 229
 unfolding everything empty_book point point_book
-point-length = refl
+point_length = refl
 
-point-within : grows_within empty_book point ≡ true
+point_within : grows_within empty_book point ≡ true
 unfolding everything empty_book point
-point-within = refl
+point_within = refl
 
-point-laid : laid_out point_book ≡ true
+point_laid : laid_out point_book ≡ true
 unfolding everything empty_book point point_book
-point-laid = refl
+point_laid = refl
 
-point-counts : counts_fit point_book ≡ true
+point_counts : counts_fit point_book ≡ true
 unfolding everything empty_book point point_book
-point-counts = refl
+point_counts = refl
 
 point-names : name_text point_book 0 ∷ name_text point_book 1 ∷ name_text point_book 2 ∷ [] ≡ ascii "probe%0" ∷ ascii "=" ∷ ascii "start" ∷ []
 unfolding everything empty_book point point_book
 point-names = refl
 
-point-fields : field point_book terms 2 0 ∷ field point_book terms 2 3 ∷ field point_book contexts 0 1 ∷ entries point_book 0 2 ≡ 4 ∷ 2 ∷ 2 ∷ 1 ∷ 0 ∷ []
+point_fields : field point_book terms 2 0 ∷ field point_book terms 2 3 ∷ field point_book contexts 0 1 ∷ entries point_book 0 2 ≡ 4 ∷ 2 ∷ 2 ∷ 1 ∷ 0 ∷ []
 unfolding everything empty_book point point_book
-point-fields = refl
+point_fields = refl
 
-point-again : assembled (body point_book) ≡ point_book
+point_again : assembled (body point_book) ≡ point_book
 unfolding everything empty_book point point_book
-point-again = refl
+point_again = refl

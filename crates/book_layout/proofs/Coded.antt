@@ -8,17 +8,17 @@ use mathlib.Core.List.{List, ◌++◌}
 use lib.ListN.{length, get_or, take, drop}
 use Rattle.basics.specs.Lists.{join_below}
 use Rattle.basics.specs.Write.{MOST, WroteAt}
-use Rattle.basics.proofs.Places.{at-then, at-as, at_none}
+use Rattle.basics.proofs.Places.{at_then, at_as, at_none}
 use Rattle.book.specs.Book.{Book, offset, size}
 use Rattle.book.specs.Laid.{section_at, section_count, Laid, Reads}
 use Rattle.book.proofs.Sections.{sizes, tabled}
-use Rattle.book.proofs.EachSection.{each-section, size-positive}
+use Rattle.book.proofs.EachSection.{each_section, size_positive}
 use Rattle.book_layout.specs.Layout.{body}
 use Rattle.basics.specs.Bytes.{bytes4}
 use Rattle.book_layout.specs.Table.{start_by, line_by, table_by, Counts}
 
-pub contents-end : {b : Book} {n : ℕ} → n < section_count → Laid b (section_at n) → 8 * n + 8 ≤ length b
-contents-end {n = n} known laid = omega (arith, (tabled n known).number, laid.contents)
+pub contents_end : {b : Book} {n : ℕ} → n < section_count → Laid b (section_at n) → 8 * n + 8 ≤ length b
+contents_end {n = n} known laid = omega (arith, (tabled n known).number, laid.contents)
 
 module _ {b : Book} {n o k : ℕ} (known : n < section_count) (laid : Laid b (section_at n)) (begins : Reads (offset b (section_at n)) o) (many : Reads (size b (section_at n)) k) where
   pub body_end : o + get_or sizes n 0 * k ≤ length b
@@ -30,15 +30,15 @@ module _ {b : Book} {n o k : ℕ} (known : n < section_count) (laid : Laid b (se
       let e : o + get_or sizes n 0 * k - o ≡ get_or sizes n 0 * k = omega arith in
       rw (e, (tabled n known).size, begins.is, many.is)
 
-pub size-there : {n : ℕ} → n < section_count → 0 < get_or sizes n 0
-size-there {n} known = rw (tabled n known).size (size-positive n known)
+pub size_there : {n : ℕ} → n < section_count → 0 < get_or sizes n 0
+size_there {n} known = rw (tabled n known).size (size_positive n known)
 
-pub more-are : (b : Book) (n : ℕ) {k : ℕ} (more : ℕ) → n < section_count → Reads (size b (section_at n)) k → k + more / get_or sizes n 0 ≡ size b (section_at n) + more / (section_at n).size
-more-are b n more known many = rw ((tabled n known).size, many.is)
+pub more_are : (b : Book) (n : ℕ) {k : ℕ} (more : ℕ) → n < section_count → Reads (size b (section_at n)) k → k + more / get_or sizes n 0 ≡ size b (section_at n) + more / (section_at n).size
+more_are b n more known many = rw ((tabled n known).size, many.is)
 
-pub limit-fits : (n : ℕ) → n < section_count → (section_at n).most < 2 ^ 32
-limit-fits =
-    each-section (λ n. (section_at n).most < 2 ^ 32) (omega arith) (omega arith) (omega arith) (omega arith) (omega arith) (omega arith) (omega arith) (omega arith)
+pub limit_fits : (n : ℕ) → n < section_count → (section_at n).most < 2 ^ 32
+limit_fits =
+    each_section (λ n. (section_at n).most < 2 ^ 32) (omega arith) (omega arith) (omega arith) (omega arith) (omega arith) (omega arith) (omega arith) (omega arith)
     (omega arith) (omega arith)
 
 -- the table up to a line
@@ -64,11 +64,11 @@ module _ {counts o o1 : List ℕ} {start at n : ℕ} (C : Counts counts) (B : Be
       record {
         starts = rw (add-one n, B.starts, (tabled n known).size);
         low = omega (arith, B.low, line_small known);
-        wrote = rw (add-one n) (at-then short B.wrote (at-as (rw B.starts) w));
+        wrote = rw (add-one n) (at_then short B.wrote (at_as (rw B.starts) w));
       }
 
-  pub begun-fits : n < section_count → start + get_or sizes n 0 * get_or counts n 0 < 2 ^ 64
-  begun-fits known = omega (arith, B.low, line_small known)
+  pub begun_fits : n < section_count → start + get_or sizes n 0 * get_or counts n 0 < 2 ^ 64
+  begun_fits known = omega (arith, B.low, line_small known)
 
   pub begun_all : n ≡ section_count → WroteAt (table_by counts) 0 o o1 at
   unfolding table_by

@@ -8,7 +8,7 @@ use Rattle.basics.specs.Lists.{join_below}
 use Rattle.book.specs.Laid.{section_at, section_count}
 use Rattle.book_layout.specs.Layout.{Bodies, count_of, start_of, entry_of, Fits}
 use Rattle.book_layout.specs.Table.{start_by, line_by, table_by}
-use Rattle.book_layout.proofs.Agree.{join-agree}
+use Rattle.book_layout.proofs.Agree.{join_agree}
 
 -- the table of bodies whose counts are these
 module _ (f : Bodies) (F : Fits f) (counts : List ℕ) (are : (n : ℕ) → n < section_count → get_or counts n 0 ≡ count_of f (section_at n)) where
@@ -23,4 +23,4 @@ module _ (f : Bodies) (F : Fits f) (counts : List ℕ) (are : (n : ℕ) → n < 
 
   pub table-by : join_below section_count (entry_of f) ≡ table_by counts
   unfolding table_by
-  table-by = join-agree section_count (entry_of f) (line_by counts) line-by
+  table-by = join_agree section_count (entry_of f) (line_by counts) line-by

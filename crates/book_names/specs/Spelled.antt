@@ -9,7 +9,7 @@ pub record Spelled (b : Book) : Type 0 where
   pub constant : (k : ℕ) → k < size b constants → field b constants k 0 < size b names
   pub function : (k : ℕ) → k < size b functions → field b functions k 0 < size b names
   pub literal : (t : ℕ) → t < size b terms → field b terms t 0 ≡ 2 → field b terms t 1 < size b names
-  pub literal-type : (t : ℕ) → t < size b terms → field b terms t 0 ≡ 2 → field b terms t 2 < user_types + size b types
+  pub literal_type : (t : ℕ) → t < size b terms → field b terms t 0 ≡ 2 → field b terms t 2 < user_types + size b types
 
 -- a section whose records have a name as their first field
 pub record NamedFirst (b : Book) (section : ℕ) : Type 0 where

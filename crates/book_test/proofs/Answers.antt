@@ -7,7 +7,7 @@ use lib.ListN.{length, replicate}
 use borrow.Author.Tests.{lt-ltb, le-ltb}
 use Rattle.basics.specs.Outcome.{refused, accepted, refuse, ◌>>◌}
 use Rattle.basics.specs.Buffer.{scratch_least, scratch_after}
-use Rattle.basics.proofs.Bool.{both-and, and-false}
+use Rattle.basics.proofs.Bool.{both_and, and-false}
 use Rattle.book.specs.Book.{Book}
 use Rattle.book_contents.specs.Contents.{laid_out, counts_fit}
 use Rattle.book_fields.specs.Fields.{fields_in_range}
@@ -27,56 +27,56 @@ unfolding scratch_after
 zeroed s l = rw (le-ltb (length s) scratch_least l)
 
 module _ (b : Book) where
-  pub fields-fail : fields_in_range b ≡ false → in_range b ≡ false
+  pub fields_fail : fields_in_range b ≡ false → in_range b ≡ false
   unfolding in_range
-  fields-fail h = rw h
+  fields_fail h = rw h
 
-  pub terms-fail : terms_in_range b ≡ false → in_range b ≡ false
+  pub terms_fail : terms_in_range b ≡ false → in_range b ≡ false
   unfolding in_range
-  terms-fail h = rw h (and-false (fields_in_range b))
+  terms_fail h = rw h (and-false (fields_in_range b))
 
-  pub range-pass : fields_in_range b ≡ true → terms_in_range b ≡ true → in_range b ≡ true
+  pub range_pass : fields_in_range b ≡ true → terms_in_range b ≡ true → in_range b ≡ true
   unfolding in_range
-  range-pass h k = both-and h k
+  range_pass h k = both_and h k
 
-  pub refused-1 : (n : ℕ) → n < scratch_least → refused 1 ≡ ready n b
+  pub refused_1 : (n : ℕ) → n < scratch_least → refused 1 ≡ ready n b
   unfolding ready refuse ◌>>◌
-  refused-1 n l = rw (lt-ltb n scratch_least l)
+  refused_1 n l = rw (lt-ltb n scratch_least l)
 
   module _ (n : ℕ) (long : scratch_least ≤ n) where
-    pub ready-long : book_test b ≡ ready n b
+    pub ready_long : book_test b ≡ ready n b
     unfolding ready refuse ◌>>◌
-    ready-long = rw (le-ltb n scratch_least long)
+    ready_long = rw (le-ltb n scratch_least long)
 
-    pub refused-2 : laid_out b ≡ false → refused 2 ≡ ready n b
+    pub refused_2 : laid_out b ≡ false → refused 2 ≡ ready n b
     unfolding book_test refuse ◌>>◌
-    refused-2 h = rw (← ready-long, h)
+    refused_2 h = rw (← ready_long, h)
 
     module _ (laid : laid_out b ≡ true) where
-      pub refused-3 : counts_fit b ≡ false → refused 3 ≡ ready n b
+      pub refused_3 : counts_fit b ≡ false → refused 3 ≡ ready n b
       unfolding book_test refuse ◌>>◌
-      refused-3 h = rw (← ready-long, laid, h)
+      refused_3 h = rw (← ready_long, laid, h)
 
       module _ (counts : counts_fit b ≡ true) where
-        pub refused-4 : in_range b ≡ false → refused 4 ≡ ready n b
+        pub refused_4 : in_range b ≡ false → refused 4 ≡ ready n b
         unfolding book_test refuse ◌>>◌
-        refused-4 h = rw (← ready-long, laid, counts, h)
+        refused_4 h = rw (← ready_long, laid, counts, h)
 
         module _ (ranges : in_range b ≡ true) where
-          pub refused-5 : is_forest b ≡ false → refused 5 ≡ ready n b
+          pub refused_5 : is_forest b ≡ false → refused 5 ≡ ready n b
           unfolding book_test refuse ◌>>◌
-          refused-5 h = rw (← ready-long, laid, counts, ranges, h)
+          refused_5 h = rw (← ready_long, laid, counts, ranges, h)
 
           module _ (forest : is_forest b ≡ true) where
-            pub refused-6 : shallow b ≡ false → refused 6 ≡ ready n b
+            pub refused_6 : shallow b ≡ false → refused 6 ≡ ready n b
             unfolding book_test refuse ◌>>◌
-            refused-6 h = rw (← ready-long, laid, counts, ranges, forest, h)
+            refused_6 h = rw (← ready_long, laid, counts, ranges, forest, h)
 
             module _ (depth : shallow b ≡ true) where
-              pub refused-28 : names_good b ≡ false → refused 28 ≡ ready n b
+              pub refused_28 : names_good b ≡ false → refused 28 ≡ ready n b
               unfolding book_test refuse ◌>>◌
-              refused-28 h = rw (← ready-long, laid, counts, ranges, forest, depth, h)
+              refused_28 h = rw (← ready_long, laid, counts, ranges, forest, depth, h)
 
-              pub accepted-all : names_good b ≡ true → accepted tt ≡ ready n b
+              pub accepted_all : names_good b ≡ true → accepted tt ≡ ready n b
               unfolding book_test refuse ◌>>◌
-              accepted-all h = rw (← ready-long, laid, counts, ranges, forest, depth, h)
+              accepted_all h = rw (← ready_long, laid, counts, ranges, forest, depth, h)

@@ -19,48 +19,48 @@ listed : Section → Bool
 listed s = leb (8 * s.number + 8) contents_size
 
 module _ (b : Book) where
-  from-fits : (at : ℕ) (ss : List Section) → laid_from b at ss ≡ true → at ≤ length b
+  from_fits : (at : ℕ) (ss : List Section) → laid_from b at ss ≡ true → at ≤ length b
   unfolding laid_from
-  from-fits at [] h = omega (arith, eqb-true at (length b) h)
-  from-fits at (s ∷ ss) h =
+  from_fits at [] h = omega (arith, eqb-true at (length b) h)
+  from_fits at (s ∷ ss) h =
       let r = and_both (eqb (offset b s) at) (laid_from b (at + s.size * size b s) ss) h in
-      omega (arith, from-fits (at + s.size * size b s) ss r.1)
+      omega (arith, from_fits (at + s.size * size b s) ss r.1)
 
-  from-laid : (at : ℕ) (ss : List Section) → contents_size ≤ length b → all ss listed ≡ true → laid_from b at ss ≡ true → all ss (count_fits b) ≡ true → All (Laid b) ss
+  from_laid : (at : ℕ) (ss : List Section) → contents_size ≤ length b → all ss listed ≡ true → laid_from b at ss ≡ true → all ss (count_fits b) ≡ true → All (Laid b) ss
   unfolding laid_from all count_fits listed
-  from-laid at [] c l h k = end
-  from-laid at (s ∷ ss) c l h k =
+  from_laid at [] c l h k = end
+  from_laid at (s ∷ ss) c l h k =
       let n = and_both (listed s) (all ss listed) l in
       let r = and_both (eqb (offset b s) at) (laid_from b (at + s.size * size b s) ss) h in
       let f = and_both (count_fits b s) (all ss (count_fits b)) k in
       more {a = s} (record {
         contents = omega (arith, leb-true (8 * s.number + 8) contents_size n.0);
-        whole = omega (arith, eqb-true (offset b s) at r.0, from-fits (at + s.size * size b s) ss r.1);
+        whole = omega (arith, eqb-true (offset b s) at r.0, from_fits (at + s.size * size b s) ss r.1);
         few = leb-true (size b s) s.most f.0;
-      }) (from-laid (at + s.size * size b s) ss c n.1 r.1 f.1)
+      }) (from_laid (at + s.size * size b s) ss c n.1 r.1 f.1)
 
-  sections-laid : laid_out b ≡ true → counts_fit b ≡ true → All (Laid b) sections
+  sections_laid : laid_out b ≡ true → counts_fit b ≡ true → All (Laid b) sections
   unfolding laid_out counts_fit all listed
-  sections-laid h k =
+  sections_laid h k =
       let r = and_both (leb contents_size (length b)) (laid_from b contents_size sections) h in
-      from-laid contents_size sections (leb-true contents_size (length b) r.0) refl r.1 k
+      from_laid contents_size sections (leb-true contents_size (length b) r.0) refl r.1 k
 
-  pub contents-stand : laid_out b ≡ true → contents_size ≤ length b
+  pub contents_stand : laid_out b ≡ true → contents_size ≤ length b
   unfolding laid_out
-  contents-stand h = leb-true contents_size (length b) (and_both (leb contents_size (length b)) (laid_from b contents_size sections) h).0
+  contents_stand h = leb-true contents_size (length b) (and_both (leb contents_size (length b)) (laid_from b contents_size sections) h).0
 
   pub all_laid : laid_out b ≡ true → counts_fit b ≡ true → AllLaid b
   all_laid h k =
-      let laid = sections-laid h k in
+      let laid = sections_laid h k in
       record {
-        letters-laid = all-at laid 0 letters (omega arith);
-        names-laid = all-at laid 1 letters (omega arith);
-        types-laid = all-at laid 2 letters (omega arith);
-        constants-laid = all-at laid 3 letters (omega arith);
-        functions-laid = all-at laid 4 letters (omega arith);
-        axioms-laid = all-at laid 5 letters (omega arith);
-        patterns-laid = all-at laid 6 letters (omega arith);
-        terms-laid = all-at laid 7 letters (omega arith);
-        contexts-laid = all-at laid 8 letters (omega arith);
-        lists-laid = all-at laid 9 letters (omega arith);
+        letters_laid = all-at laid 0 letters (omega arith);
+        names_laid = all-at laid 1 letters (omega arith);
+        types_laid = all-at laid 2 letters (omega arith);
+        constants_laid = all-at laid 3 letters (omega arith);
+        functions_laid = all-at laid 4 letters (omega arith);
+        axioms_laid = all-at laid 5 letters (omega arith);
+        patterns_laid = all-at laid 6 letters (omega arith);
+        terms_laid = all-at laid 7 letters (omega arith);
+        contexts_laid = all-at laid 8 letters (omega arith);
+        lists_laid = all-at laid 9 letters (omega arith);
       }

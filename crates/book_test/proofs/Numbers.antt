@@ -12,9 +12,9 @@ use Rattle.book_depth.specs.Depth.{shallow}
 use Rattle.book_names.specs.Names.{names_good}
 use Rattle.book_test.specs.BookTest.{in_range, book_test, ready}
 
-pub test-not20 : (b : Book) → NotNumber 20 (book_test b)
+pub test_not20 : (b : Book) → NotNumber 20 (book_test b)
 unfolding book_test
-test-not20 b =
+test_not20 b =
     guarded (NotNumber 20) (λ k h. h) 2 (not (laid_out b)) _ (omega arith) λ e₂.
     guarded (NotNumber 20) (λ k h. h) 3 (not (counts_fit b)) _ (omega arith) λ e₃.
     guarded (NotNumber 20) (λ k h. h) 4 (not (in_range b)) _ (omega arith) λ e₄.
@@ -22,6 +22,6 @@ test-not20 b =
     guarded (NotNumber 20) (λ k h. h) 6 (not (shallow b)) _ (omega arith) λ e₆.
     guarded (NotNumber 20) (λ k h. h) 28 (not (names_good b)) _ (omega arith) λ e₂₈. tt
 
-pub ready-not20 : (scratch : ℕ) (b : Book) → NotNumber 20 (ready scratch b)
+pub ready_not20 : (scratch : ℕ) (b : Book) → NotNumber 20 (ready scratch b)
 unfolding ready
-ready-not20 scratch b = guarded (NotNumber 20) (λ k h. h) 1 (ltb scratch scratch_least) (book_test b) (omega arith) (λ e. test-not20 b)
+ready_not20 scratch b = guarded (NotNumber 20) (λ k h. h) 1 (ltb scratch scratch_least) (book_test b) (omega arith) (λ e. test_not20 b)

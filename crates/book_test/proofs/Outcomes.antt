@@ -40,9 +40,9 @@ pub record Passed (b : Book) : Type 0 where
   pub depth : shallow b ≡ true
   pub names : names_good b ≡ true
 
-pub test-passed : (b : Book) → book_test b ≡ accepted tt → Passed b
+pub test_passed : (b : Book) → book_test b ≡ accepted tt → Passed b
 unfolding book_test
-test-passed b e =
+test_passed b e =
     let r2 = held 2 (laid_out b) _ e in
     let r3 = held 3 (counts_fit b) _ r2.1 in
     let r4 = held 4 (in_range b) _ r3.1 in
@@ -51,6 +51,6 @@ test-passed b e =
     let r28 = held 28 (names_good b) _ r6.1 in
     record { laid = r2.0; counts = r3.0; ranges = r4.0; forest = r5.0; depth = r6.0; names = r28.0 }
 
-pub ready-passed : (n : ℕ) (b : Book) → ready n b ≡ accepted tt → (scratch_least ≤ n) × (book_test b ≡ accepted tt)
+pub ready_passed : (n : ℕ) (b : Book) → ready n b ≡ accepted tt → (scratch_least ≤ n) × (book_test b ≡ accepted tt)
 unfolding ready
-ready-passed n b e = let r = passed 1 (ltb n scratch_least) (book_test b) e in (ltb-false n scratch_least r.0, r.1)
+ready_passed n b e = let r = passed 1 (ltb n scratch_least) (book_test b) e in (ltb-false n scratch_least r.0, r.1)

@@ -5,7 +5,7 @@ use mathlib.Core.Bool.{true, ◌||◌}
 use lib.Dec.{eqb, leb, ltb}
 use borrow.Author.Tests.{ltb-true, leb-true, ne_eqb}
 use Rattle.basics.specs.Lists.{all_below}
-use Rattle.basics.proofs.Bool.{and_both, or-second}
+use Rattle.basics.proofs.Bool.{and_both, or_second}
 use Rattle.basics.proofs.Counting.{below_each}
 use Rattle.book.specs.Book.{Book, Section, letters, names, types, constants, functions, axioms, patterns, terms, contexts, lists, size, field, letter, no_term}
 use Rattle.book.specs.Decode.{custom_literal}
@@ -49,9 +49,9 @@ module _ (b : Book) where
         term = below_each _ _ r8.1;
       }
 
-  pub in-section : (s : Section) (n : ℕ) → within b s n ≡ true → n < size b s
+  pub in_section : (s : Section) (n : ℕ) → within b s n ≡ true → n < size b s
   unfolding within
-  in-section s n h = ltb-true n (size b s) h
+  in_section s n h = ltb-true n (size b s) h
 
   pub range : (limit start count : ℕ) → is_range b limit start count ≡ true → Range b limit start count
   unfolding is_range entry_below
@@ -62,65 +62,65 @@ module _ (b : Book) where
         below = λ i l. ltb-true (field b lists (start + i) 0) limit (below_each count (entry_below b limit start) r.1 i l);
       }
 
-  pub letter-range : (i : ℕ) → letter_in_range b i ≡ true → (0x20 ≤ letter b i) × (letter b i ≤ 0x7E)
+  pub letter_range : (i : ℕ) → letter_in_range b i ≡ true → (0x20 ≤ letter b i) × (letter b i ≤ 0x7E)
   unfolding letter_in_range
-  letter-range i h = let r = and_both (leb 0x20 (letter b i)) (leb (letter b i) 0x7E) h in (leb-true 0x20 (letter b i) r.0, leb-true (letter b i) 0x7E r.1)
+  letter_range i h = let r = and_both (leb 0x20 (letter b i)) (leb (letter b i) 0x7E) h in (leb-true 0x20 (letter b i) r.0, leb-true (letter b i) 0x7E r.1)
 
-  pub name-good : (n : ℕ) → name_in_range b n ≡ true → GoodName b n
+  pub name_good : (n : ℕ) → name_in_range b n ≡ true → GoodName b n
   unfolding name_in_range
-  name-good n h = record { ends = leb-true (field b names n 0 + field b names n 1) (size b letters) h }
+  name_good n h = record { ends = leb-true (field b names n 0 + field b names n 1) (size b letters) h }
 
-  pub type-good : (k : ℕ) → type_in_range b k ≡ true → field b types k 0 < size b names
+  pub type_good : (k : ℕ) → type_in_range b k ≡ true → field b types k 0 < size b names
   unfolding type_in_range
-  type-good k h = in-section names (field b types k 0) h
+  type_good k h = in_section names (field b types k 0) h
 
-  pub constant-good : (k : ℕ) → constant_in_range b k ≡ true → GoodConstant b k
+  pub constant_good : (k : ℕ) → constant_in_range b k ≡ true → GoodConstant b k
   unfolding constant_in_range type_limit
-  constant-good k h =
+  constant_good k h =
       let r = and_both (within b names (field b constants k 0)) (ltb (field b constants k 1) (type_limit b)) h in
-      record { name = in-section names (field b constants k 0) r.0; typ = ltb-true (field b constants k 1) (type_limit b) r.1 }
+      record { name = in_section names (field b constants k 0) r.0; typ = ltb-true (field b constants k 1) (type_limit b) r.1 }
 
-  pub function-good : (k : ℕ) → function_in_range b k ≡ true → GoodFunction b k
+  pub function_good : (k : ℕ) → function_in_range b k ≡ true → GoodFunction b k
   unfolding function_in_range type_limit
-  function-good k h =
+  function_good k h =
       let r3 = and_both _ _ h in
       let r2 = and_both _ _ r3.0 in
       let r1 = and_both _ _ r2.0 in
       record {
-        name = in-section names (field b functions k 0) r1.0;
+        name = in_section names (field b functions k 0) r1.0;
         typ = ltb-true (field b functions k 1) (type_limit b) r1.1;
         input_types = range (type_limit b) (field b functions k 2) (field b functions k 3) r2.1;
         explained_by = range (size b axioms) (field b functions k 4) (field b functions k 5) r3.1;
       }
 
-  pub axiom-good : (k : ℕ) → axiom_in_range b k ≡ true → GoodAxiom b k
+  pub axiom_good : (k : ℕ) → axiom_in_range b k ≡ true → GoodAxiom b k
   unfolding axiom_in_range
-  axiom-good k h =
+  axiom_good k h =
       let none = eqb (field b axioms k 0) no_term in
       let r = and_both (none || within b terms (field b axioms k 0)) (is_range b (size b functions) (field b axioms k 1) (field b axioms k 2)) h in
       record {
-        term = λ n. in-section terms (field b axioms k 0) (or-second none (within b terms (field b axioms k 0)) r.0 (ne_eqb (field b axioms k 0) no_term n));
+        term = λ n. in_section terms (field b axioms k 0) (or_second none (within b terms (field b axioms k 0)) r.0 (ne_eqb (field b axioms k 0) no_term n));
         explains = range (size b functions) (field b axioms k 1) (field b axioms k 2) r.1;
       }
 
-  pub pattern-good : (p : ℕ) → p < size b patterns → pattern_in_range b p ≡ true → GoodPattern b (size b terms) p
+  pub pattern_good : (p : ℕ) → p < size b patterns → pattern_in_range b p ≡ true → GoodPattern b (size b terms) p
   unfolding pattern_in_range
-  pattern-good p l h = record { here = l; range = range (size b terms) (field b patterns p 0) (field b patterns p 1) h }
+  pattern_good p l h = record { here = l; range = range (size b terms) (field b patterns p 0) (field b patterns p 1) h }
 
-  pub literal-range : (t : ℕ) → kind_in_range b custom_literal t ≡ true → GoodLiteral b t
+  pub literal_range : (t : ℕ) → kind_in_range b custom_literal t ≡ true → GoodLiteral b t
   unfolding kind_in_range type_limit
-  literal-range t h =
+  literal_range t h =
       let r2 = and_both _ _ h in
       let r1 = and_both _ _ r2.0 in
-      record { name = in-section names (field b terms t 1) r1.0; typ = ltb-true (field b terms t 2) (type_limit b) r1.1 }
+      record { name = in_section names (field b terms t 1) r1.0; typ = ltb-true (field b terms t 2) (type_limit b) r1.1 }
 
-  pub context-good : (k : ℕ) → context_in_range b k ≡ true → GoodContext b k
+  pub context_good : (k : ℕ) → context_in_range b k ≡ true → GoodContext b k
   unfolding context_in_range
-  context-good k h =
+  context_good k h =
       let r2 = and_both _ _ h in
       let r1 = and_both _ _ r2.0 in
       record {
         parent = leb-true (field b contexts k 0) k r1.0;
-        term = in-section terms (field b contexts k 1) r1.1;
+        term = in_section terms (field b contexts k 1) r1.1;
         trace = leb-true (field b contexts k 2) (size b names) r2.1;
       }

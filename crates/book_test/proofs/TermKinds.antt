@@ -8,17 +8,17 @@ use Rattle.book_test.specs.Promise.{Promise, GoodKind, GoodLiteral, GoodBuiltIn,
 use Rattle.book_test.proofs.TermLaw.{term-over}
 
 -- one of the nine
-pub each-kind : {A : Type 0} (k : ℕ) → k < 9 → (k ≡ 0 → A) → (k ≡ 1 → A) → (k ≡ 2 → A) → (k ≡ 3 → A) → (k ≡ 4 → A) → (k ≡ 5 → A) → (k ≡ 6 → A) → (k ≡ 7 → A) → (k ≡ 8 → A) → A
-each-kind zero l h0 h1 h2 h3 h4 h5 h6 h7 h8 = h0 refl
-each-kind (suc zero) l h0 h1 h2 h3 h4 h5 h6 h7 h8 = h1 refl
-each-kind (suc (suc zero)) l h0 h1 h2 h3 h4 h5 h6 h7 h8 = h2 refl
-each-kind (suc (suc (suc zero))) l h0 h1 h2 h3 h4 h5 h6 h7 h8 = h3 refl
-each-kind (suc (suc (suc (suc zero)))) l h0 h1 h2 h3 h4 h5 h6 h7 h8 = h4 refl
-each-kind (suc (suc (suc (suc (suc zero))))) l h0 h1 h2 h3 h4 h5 h6 h7 h8 = h5 refl
-each-kind (suc (suc (suc (suc (suc (suc zero)))))) l h0 h1 h2 h3 h4 h5 h6 h7 h8 = h6 refl
-each-kind (suc (suc (suc (suc (suc (suc (suc zero))))))) l h0 h1 h2 h3 h4 h5 h6 h7 h8 = h7 refl
-each-kind (suc (suc (suc (suc (suc (suc (suc (suc zero)))))))) l h0 h1 h2 h3 h4 h5 h6 h7 h8 = h8 refl
-each-kind (suc (suc (suc (suc (suc (suc (suc (suc (suc k))))))))) l h0 h1 h2 h3 h4 h5 h6 h7 h8 = absurd (omega arith)
+pub each_kind : {A : Type 0} (k : ℕ) → k < 9 → (k ≡ 0 → A) → (k ≡ 1 → A) → (k ≡ 2 → A) → (k ≡ 3 → A) → (k ≡ 4 → A) → (k ≡ 5 → A) → (k ≡ 6 → A) → (k ≡ 7 → A) → (k ≡ 8 → A) → A
+each_kind zero l h0 h1 h2 h3 h4 h5 h6 h7 h8 = h0 refl
+each_kind (suc zero) l h0 h1 h2 h3 h4 h5 h6 h7 h8 = h1 refl
+each_kind (suc (suc zero)) l h0 h1 h2 h3 h4 h5 h6 h7 h8 = h2 refl
+each_kind (suc (suc (suc zero))) l h0 h1 h2 h3 h4 h5 h6 h7 h8 = h3 refl
+each_kind (suc (suc (suc (suc zero)))) l h0 h1 h2 h3 h4 h5 h6 h7 h8 = h4 refl
+each_kind (suc (suc (suc (suc (suc zero))))) l h0 h1 h2 h3 h4 h5 h6 h7 h8 = h5 refl
+each_kind (suc (suc (suc (suc (suc (suc zero)))))) l h0 h1 h2 h3 h4 h5 h6 h7 h8 = h6 refl
+each_kind (suc (suc (suc (suc (suc (suc (suc zero))))))) l h0 h1 h2 h3 h4 h5 h6 h7 h8 = h7 refl
+each_kind (suc (suc (suc (suc (suc (suc (suc (suc zero)))))))) l h0 h1 h2 h3 h4 h5 h6 h7 h8 = h8 refl
+each_kind (suc (suc (suc (suc (suc (suc (suc (suc (suc k))))))))) l h0 h1 h2 h3 h4 h5 h6 h7 h8 = absurd (omega arith)
 
 module _ {b : Book} (P : Promise b) {t : ℕ} (here : t < size b terms) {k : ℕ} (kind : k ≡ field b terms t 0) where
   pub known : k < 9
@@ -32,30 +32,30 @@ module _ {b : Book} (P : Promise b) {t : ℕ} (here : t < size b terms) {k : ℕ
   good = rw kind (P.term t here).fields
 
   -- ---- what the record has
-  pub good-literal : k ≡ 2 → GoodLiteral b t
+  pub good_literal : k ≡ 2 → GoodLiteral b t
   unfolding GoodKind kind_of
-  good-literal e = rw e at good
+  good_literal e = rw e at good
 
-  pub good-id : k ≡ 3 → field b terms t 1 < size b constants
+  pub good_id : k ≡ 3 → field b terms t 1 < size b constants
   unfolding GoodKind kind_of
-  good-id e = rw e at good
+  good_id e = rw e at good
 
-  pub good-built-in : k ≡ 4 → GoodBuiltIn b t
+  pub good_built_in : k ≡ 4 → GoodBuiltIn b t
   unfolding GoodKind kind_of
-  good-built-in e = rw e at good
+  good_built_in e = rw e at good
 
-  pub good-application : k ≡ 5 → GoodApplication b t
+  pub good_application : k ≡ 5 → GoodApplication b t
   unfolding GoodKind kind_of
-  good-application e = rw e at good
+  good_application e = rw e at good
 
-  pub good-if : k ≡ 6 → GoodIfThenElse b t
+  pub good_if : k ≡ 6 → GoodIfThenElse b t
   unfolding GoodKind kind_of
-  good-if e = rw e at good
+  good_if e = rw e at good
 
-  pub good-let : k ≡ 7 → GoodLet b t
+  pub good_let : k ≡ 7 → GoodLet b t
   unfolding GoodKind kind_of
-  good-let e = rw e at good
+  good_let e = rw e at good
 
-  pub good-quantifier : k ≡ 8 → GoodQuantifier b t
+  pub good_quantifier : k ≡ 8 → GoodQuantifier b t
   unfolding GoodKind kind_of
-  good-quantifier e = rw e at good
+  good_quantifier e = rw e at good

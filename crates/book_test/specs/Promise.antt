@@ -87,20 +87,20 @@ pub record GoodTerm (b : Book) (t : ℕ) : Type 0 where
   pub fields : GoodKind (kind_of (field b terms t 0)) b t
 
 pub record Promise (b : Book) : Type 0 where
-  pub letters-laid : Laid b letters
-  pub names-laid : Laid b names
-  pub types-laid : Laid b types
-  pub constants-laid : Laid b constants
-  pub functions-laid : Laid b functions
-  pub axioms-laid : Laid b axioms
-  pub patterns-laid : Laid b patterns
-  pub terms-laid : Laid b terms
-  pub contexts-laid : Laid b contexts
-  pub lists-laid : Laid b lists
-  pub letter-low : (i : ℕ) → i < size b letters → 0x20 ≤ letter b i
-  pub letter-high : (i : ℕ) → i < size b letters → letter b i ≤ 0x7E
+  pub letters_laid : Laid b letters
+  pub names_laid : Laid b names
+  pub types_laid : Laid b types
+  pub constants_laid : Laid b constants
+  pub functions_laid : Laid b functions
+  pub axioms_laid : Laid b axioms
+  pub patterns_laid : Laid b patterns
+  pub terms_laid : Laid b terms
+  pub contexts_laid : Laid b contexts
+  pub lists_laid : Laid b lists
+  pub letter_low : (i : ℕ) → i < size b letters → 0x20 ≤ letter b i
+  pub letter_high : (i : ℕ) → i < size b letters → letter b i ≤ 0x7E
   pub name : (n : ℕ) → n < size b names → GoodName b n
-  pub type-name : (k : ℕ) → k < size b types → field b types k 0 < size b names
+  pub type_name : (k : ℕ) → k < size b types → field b types k 0 < size b names
   pub constant : (k : ℕ) → k < size b constants → GoodConstant b k
   pub function : (k : ℕ) → k < size b functions → GoodFunction b k
   pub axiom' : (k : ℕ) → k < size b axioms → GoodAxiom b k
@@ -108,7 +108,7 @@ pub record Promise (b : Book) : Type 0 where
   pub term : (t : ℕ) → t < size b terms → GoodTerm b t
   pub context : (k : ℕ) → k < size b contexts → GoodContext b k
   pub shallow : (k : ℕ) → k < size b contexts → depth (program b) (suc k) ≤ depth_most
-  pub type-named : (k : ℕ) → k < size b types → is_name (name_text b (field b types k 0)) ≡ true
-  pub constant-named : (k : ℕ) → k < size b constants → is_name (name_text b (field b constants k 0)) ≡ true
-  pub function-named : (k : ℕ) → k < size b functions → is_name (name_text b (field b functions k 0)) ≡ true
+  pub type_named : (k : ℕ) → k < size b types → is_name (name_text b (field b types k 0)) ≡ true
+  pub constant_named : (k : ℕ) → k < size b constants → is_name (name_text b (field b constants k 0)) ≡ true
+  pub function_named : (k : ℕ) → k < size b functions → is_name (name_text b (field b functions k 0)) ≡ true
   pub literal-named : (t : ℕ) → t < size b terms → kind_of (field b terms t 0) ≡ custom_literal → literal_named (literal_of b t) ≡ true

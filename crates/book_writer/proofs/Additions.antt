@@ -23,108 +23,108 @@ use Rattle.book_writer.specs.Growths.{Growth, term_right, append_name, append_co
 use Rattle.book_writer.specs.Coded.{append_in, Appends, IsTermRow, listed_bytes, AreRows}
 use Rattle.book_writer.specs.declared.Appended.{Appended}
 use Rattle.book_writer.specs.declared.probe_rows.ProbeRows.{ProbeRows}
-use Rattle.book_writer.proofs.Recorded.{addition-whole, probe-draft-whole}
+use Rattle.book_writer.proofs.Recorded.{addition_whole, probe_draft_whole}
 
-pub whole-as : (b : Book) (g : Growth) {a : Addition} → a ≡ addition_of b g → Whole a
-whole-as b g e = rw e (addition-whole b g)
+pub whole_as : (b : Book) (g : Growth) {a : Addition} → a ≡ addition_of b g → Whole a
+whole_as b g e = rw e (addition_whole b g)
 
-pub append-as : (b : Book) {a a1 : Addition} (right : Bool) {n n1 : ℕ} (room : ℕ) {r : Appended} {t t1 s s1 : List ℕ} → a ≡ a1 → n ≡ n1
+pub append_as : (b : Book) {a a1 : Addition} (right : Bool) {n n1 : ℕ} (room : ℕ) {r : Appended} {t t1 s s1 : List ℕ} → a ≡ a1 → n ≡ n1
     → Appends (append_in b a right n room) r t t1 s s1 → Appends (append_in b a1 right n1 room) r t t1 s s1
-append-as b right room e f x = rw (e, f) at x
+append_as b right room e f x = rw (e, f) at x
 
 -- by its parts
 by_parts : {l l1 n n1 c c1 t t1 x x1 e e1 : List ℕ} → l ≡ l1 → n ≡ n1 → c ≡ c1 → t ≡ t1 → x ≡ x1 → e ≡ e1 → addition l n c t x e ≡ addition l1 n1 c1 t1 x1 e1
 by_parts p q r s u v = λ i. addition (p i) (q i) (r i) (s i) (u i) (v i)
 
 -- a section with one new record
-one-row : {r : List ℕ} (xs : List ℕ) → r ≡ row xs → r ≡ rows (xs ∷ [])
+one_row : {r : List ℕ} (xs : List ℕ) → r ≡ row xs → r ≡ rows (xs ∷ [])
 unfolding rows
-one-row xs e = e ∙ sym (append-nil (row xs))
+one_row xs e = e ∙ sym (append-nil (row xs))
 
 -- ---- one record
-pub name-added : (b : Book) (t : Text) {r : List ℕ} {k start : ℕ} → k ≡ size b letters → start ≡ range_start k (length t) → r ≡ row (start ∷ length t ∷ [])
+pub name_added : (b : Book) (t : Text) {r : List ℕ} {k start : ℕ} → k ≡ size b letters → start ≡ range_start k (length t) → r ≡ row (start ∷ length t ∷ [])
     → addition (t ++ []) r [] [] [] [] ≡ addition_of b (append_name t)
 unfolding addition_of draft_of addition_from all_letters name_rows name_row rows
-name-added b t {r} {k} {start} ek es er =
+name_added b t {r} {k} {start} ek es er =
     let is : start ≡ range_start (size b letters) (length t) = rw ek at es in
-    by_parts refl (one-row (range_start (size b letters) (length t) ∷ length t ∷ []) (er ∙ ap (λ (z : ℕ). row (z ∷ length t ∷ [])) is)) refl refl refl refl
+    by_parts refl (one_row (range_start (size b letters) (length t) ∷ length t ∷ []) (er ∙ ap (λ (z : ℕ). row (z ∷ length t ∷ [])) is)) refl refl refl refl
 
-pub constant-added : (b : Book) (n t : ℕ) {r : List ℕ} → r ≡ row (n ∷ t ∷ []) → addition [] [] r [] [] [] ≡ addition_of b (append_constant n t)
+pub constant_added : (b : Book) (n t : ℕ) {r : List ℕ} → r ≡ row (n ∷ t ∷ []) → addition [] [] r [] [] [] ≡ addition_of b (append_constant n t)
 unfolding addition_of draft_of addition_from all_letters name_rows constant_row rows
-constant-added b n t e = by_parts refl refl (one-row (n ∷ t ∷ []) e) refl refl refl
+constant_added b n t e = by_parts refl refl (one_row (n ∷ t ∷ []) e) refl refl refl
 
-pub node-added : (b : Book) (p t n : ℕ) {r : List ℕ} → r ≡ row (p ∷ t ∷ n ∷ []) → addition [] [] [] [] r [] ≡ addition_of b (append_node p t n)
+pub node_added : (b : Book) (p t n : ℕ) {r : List ℕ} → r ≡ row (p ∷ t ∷ n ∷ []) → addition [] [] [] [] r [] ≡ addition_of b (append_node p t n)
 unfolding addition_of draft_of addition_from all_letters name_rows node_row rows
-node-added b p t n e = by_parts refl refl refl refl (one-row (p ∷ t ∷ n ∷ []) e) refl
+node_added b p t n e = by_parts refl refl refl refl (one_row (p ∷ t ∷ n ∷ []) e) refl
 
-pub untraced-added : (b : Book) (p t : ℕ) {r : List ℕ} → r ≡ row (p ∷ t ∷ 0 ∷ []) → addition [] [] [] [] r [] ≡ addition_of b (extend p t none)
+pub untraced_added : (b : Book) (p t : ℕ) {r : List ℕ} → r ≡ row (p ∷ t ∷ 0 ∷ []) → addition [] [] [] [] r [] ≡ addition_of b (extend p t none)
 unfolding addition_of draft_of extend_draft addition_from all_letters name_rows node_row rows
-untraced-added b p t e = by_parts refl refl refl refl (one-row (p ∷ t ∷ 0 ∷ []) e) refl
+untraced_added b p t e = by_parts refl refl refl refl (one_row (p ∷ t ∷ 0 ∷ []) e) refl
 
 -- ---- a term and its lists
-lists-taken : (ranges : ℕ) (xs ys : List ℕ) → take (listed_bytes (leb 1 ranges) (length xs)) xs ++ take (listed_bytes (leb 2 ranges) (length ys)) ys ≡ term_lists ranges xs ys
+lists_taken : (ranges : ℕ) (xs ys : List ℕ) → take (listed_bytes (leb 1 ranges) (length xs)) xs ++ take (listed_bytes (leb 2 ranges) (length ys)) ys ≡ term_lists ranges xs ys
 unfolding listed_bytes term_lists whole_entries entry_count
-lists-taken zero xs ys = refl
-lists-taken (suc zero) xs ys = append-nil (take (4 * (length xs / 4)) xs)
-lists-taken (suc (suc n)) xs ys = rw (le-leb 1 (suc (suc n)) (omega arith), le-leb 2 (suc (suc n)) (omega arith))
+lists_taken zero xs ys = refl
+lists_taken (suc zero) xs ys = append-nil (take (4 * (length xs / 4)) xs)
+lists_taken (suc (suc n)) xs ys = rw (le-leb 1 (suc (suc n)) (omega arith), le-leb 2 (suc (suc n)) (omega arith))
 
-pub term-added : (b : Book) (t : NewTerm) (xs ys : List ℕ) {ranges k i j : ℕ} {r : List ℕ} → ranges ≡ ranges_of t.kind → k ≡ size b lists
+pub term_added : (b : Book) (t : NewTerm) (xs ys : List ℕ) {ranges k i j : ℕ} {r : List ℕ} → ranges ≡ ranges_of t.kind → k ≡ size b lists
     → IsTermRow ranges k t (length xs / 4) (length ys / 4) r → i ≡ listed_bytes (leb 1 ranges) (length xs) → j ≡ listed_bytes (leb 2 ranges) (length ys)
     → addition [] [] [] r [] (take i xs ++ take j ys) ≡ addition_of b (append_term t xs ys)
 unfolding addition_of draft_of addition_from all_letters name_rows entry_count rows
-term-added b t xs ys {ranges} {k} {i} {j} {r} er ek w ei ej =
+term_added b t xs ys {ranges} {k} {i} {j} {r} er ek w ei ej =
     let is : r ≡ row (term_row (filled (ranges_of t.kind) (size b lists) t xs ys)) = rw (er, ek) at (w.is xs ys refl refl) in
-    let all : take i xs ++ take j ys ≡ term_lists (ranges_of t.kind) xs ys = rw (ei, ej, er) (lists-taken (ranges_of t.kind) xs ys) in
-    by_parts refl refl refl (one-row _ is) refl all
+    let all : take i xs ++ take j ys ≡ term_lists (ranges_of t.kind) xs ys = rw (ei, ej, er) (lists_taken (ranges_of t.kind) xs ys) in
+    by_parts refl refl refl (one_row _ is) refl all
 
 -- ---- the four
-pub traced-added : (b : Book) (p t : ℕ) (trace : Text) (k : ℕ) {N : Numbered} {P : NameParts} {r : List ℕ} → k ≡ size b letters → IsNamed b trace (new_before [] false false) N
+pub traced_added : (b : Book) (p t : ℕ) (trace : Text) (k : ℕ) {N : Numbered} {P : NameParts} {r : List ℕ} → k ≡ size b letters → IsNamed b trace (new_before [] false false) N
     → AreParts k [] false false trace N.new P → r ≡ row (p ∷ t ∷ (N.number + 1) ∷ [])
     → addition (take P.letters_length P.letters ++ take P.text_length trace) (take P.rows_length P.rows) [] [] r [] ≡ addition_of b (extend p t (some trace))
 unfolding addition_of draft_of extend_draft addition_from node_row new_before optional rows
-traced-added b p t trace k {N} {P} {r} ek h parts e =
+traced_added b p t trace k {N} {P} {r} ek h parts e =
     let all : optional N.new trace ≡ (named b trace []).texts = sym h.texts in
     let number : N.number + 1 ≡ suc (named b trace []).number = add-one N.number ∙ ap suc h.number in
     by_parts (parts.letters ∙ ap all_letters all) (parts.rows ∙ ap rows (ap (name_rows k) all ∙ ap (λ (m : ℕ). name_rows m (named b trace []).texts) ek)) refl refl
-    (one-row (p ∷ t ∷ suc (named b trace []).number ∷ []) (e ∙ ap (λ (m : ℕ). row (p ∷ t ∷ m ∷ [])) number)) refl
+    (one_row (p ∷ t ∷ suc (named b trace []).number ∷ []) (e ∙ ap (λ (m : ℕ). row (p ∷ t ∷ m ∷ [])) number)) refl
 
-two-terms : (b : Book) (v k n m : ℕ) {r : List ℕ} → n ≡ m → k ≡ size b lists → r ≡ rows (map term_row (identifier v ∷ equality n k ∷ []))
+two_terms : (b : Book) (v k n m : ℕ) {r : List ℕ} → n ≡ m → k ≡ size b lists → r ≡ rows (map term_row (identifier v ∷ equality n k ∷ []))
     → r ≡ rows (map term_row (equality_terms b v m))
 unfolding equality_terms
-two-terms b v k n m en ek e = rw (← en, ← ek) e
+two_terms b v k n m en ek e = rw (← en, ← ek) e
 
 nothing : (n : ℕ) → take {A = ℕ} n [] ≡ []
 nothing zero = refl
 nothing (suc n) = refl
 
-equals-only : (new : Bool) → new_before [] false new ++ [] ≡ [] ++ optional new equals
+equals_only : (new : Bool) → new_before [] false new ++ [] ≡ [] ++ optional new equals
 unfolding new_before optional
-equals-only true = refl
-equals-only false = refl
+equals_only true = refl
+equals_only false = refl
 
-pub equated-added : (b : Book) (p v t k l m : ℕ) {N : Numbered} {P : NameParts} {terms' node entries x : List ℕ} → k ≡ size b letters → l ≡ size b lists → m ≡ size b terms
+pub equated_added : (b : Book) (p v t k l m : ℕ) {N : Numbered} {P : NameParts} {terms' node entries x : List ℕ} → k ≡ size b letters → l ≡ size b lists → m ≡ size b terms
     → x ≡ equals → IsNamed b x (new_before [] false false) N → AreParts k [] false N.new [] false P
     → terms' ≡ rows (map term_row (identifier v ∷ equality N.number l ∷ [])) → node ≡ row (p ∷ (m + 1) ∷ 0 ∷ []) → entries ≡ row (m ∷ t ∷ [])
     → addition (take P.letters_length P.letters ++ []) (take P.rows_length P.rows) [] terms' node (entries ++ []) ≡ addition_of b (extend_with_equality p v t)
 unfolding addition_of draft_of equality_draft addition_from node_row new_before optional rows
-equated-added b p v t k l m {N} {P} {terms'} {node} {entries} {x} ek el em ex hx parts et en ee =
+equated_added b p v t k l m {N} {P} {terms'} {node} {entries} {x} ek el em ex hx parts et en ee =
     let h : IsNamed b equals [] N = rw ex at hx in
-    let all : new_before [] false N.new ++ [] ≡ (named b equals []).texts = equals-only N.new ∙ sym h.texts in
+    let all : new_before [] false N.new ++ [] ≡ (named b equals []).texts = equals_only N.new ∙ sym h.texts in
     let none : take P.text_length [] ≡ [] = nothing P.text_length in
     by_parts (ap (λ (z : List ℕ). take P.letters_length P.letters ++ z) (sym none) ∙ parts.letters ∙ ap all_letters all)
     (parts.rows ∙ ap rows (ap (name_rows k) all ∙ ap (λ (z : ℕ). name_rows z (named b equals []).texts) ek)) refl
-    (two-terms b v l N.number (named b equals []).number h.number el et)
-    (one-row (p ∷ suc (size b terms) ∷ 0 ∷ []) (en ∙ ap (λ (z : ℕ). row (p ∷ z ∷ 0 ∷ [])) (add-one m ∙ ap suc em)))
+    (two_terms b v l N.number (named b equals []).number h.number el et)
+    (one_row (p ∷ suc (size b terms) ∷ 0 ∷ []) (en ∙ ap (λ (z : ℕ). row (p ∷ z ∷ 0 ∷ [])) (add-one m ∙ ap suc em)))
     (append-nil entries ∙ ee ∙ ap (λ (z : ℕ). row (z ∷ t ∷ [])) em)
 
 -- Record and RecordTracePoint, with the probe's name
-pub probe-added : (b : Book) (probe : Text) (p typ k : ℕ) (t : Option ℕ) (trace : Option Text) (text : Text) {N : ProbeNames} {P : NameParts} {R : ProbeRows} → k ≡ size b letters
+pub probe_added : (b : Book) (probe : Text) (p typ k : ℕ) (t : Option ℕ) (trace : Option Text) (text : Text) {N : ProbeNames} {P : NameParts} {R : ProbeRows} → k ≡ size b letters
     → AreNamed b probe trace text N → AreParts k probe N.probe_new N.equals_new text N.trace_new P
     → AreRows b N.probe N.equals N.trace p typ t R
     → addition (take P.letters_length P.letters ++ take P.text_length text) (take P.rows_length P.rows) R.constant (take R.terms_length R.terms) R.node (R.entries ++ [])
     ≡ addition_from b (probe_draft_by b probe p t typ trace)
 unfolding addition_from probe_draft_by
-probe-added b probe p typ k t trace text {N} {P} {R} ek h parts rs =
+probe_added b probe p typ k t trace text {N} {P} {R} ek h parts rs =
     let all = sym h.texts in
     by_parts (parts.letters ∙ ap all_letters all)
     (parts.rows ∙ ap rows (ap (name_rows k) all ∙ ap (λ (z : ℕ). name_rows z (trace_named b probe trace).texts) ek))
@@ -133,14 +133,14 @@ probe-added b probe p typ k t trace text {N} {P} {R} ek h parts rs =
     (rs.node ∙ ap (λ (z : ℕ). rows (map node_row (new_node p (probe_equality b t) (suc z) ∷ []))) h.trace)
     (append-nil R.entries ∙ rs.entries)
 
-pub probe-whole : (b : Book) (probe : Text) (p typ : ℕ) (t : Option ℕ) (trace : Option Text) {a : Addition} → a ≡ addition_from b (probe_draft_by b probe p t typ trace) → Whole a
-probe-whole b probe p typ t trace e = rw e (probe-draft-whole b probe p t typ trace)
+pub probe_whole : (b : Book) (probe : Text) (p typ : ℕ) (t : Option ℕ) (trace : Option Text) {a : Addition} → a ≡ addition_from b (probe_draft_by b probe p t typ trace) → Whole a
+probe_whole b probe p typ t trace e = rw e (probe_draft_whole b probe p t typ trace)
 
 -- what was handed over, as the code decided it
-pub right-as : (b : Book) (a : Addition) (t : NewTerm) (xs ys : List ℕ) (n room : ℕ) {ranges : ℕ} {right : Bool} {r : Appended} {o o1 s s1 : List ℕ} → ranges ≡ ranges_of t.kind → right ≡ term_right ranges t xs ys
+pub right_as : (b : Book) (a : Addition) (t : NewTerm) (xs ys : List ℕ) (n room : ℕ) {ranges : ℕ} {right : Bool} {r : Appended} {o o1 s s1 : List ℕ} → ranges ≡ ranges_of t.kind → right ≡ term_right ranges t xs ys
     → Appends (append_in b a right n room) r o o1 s s1 → Appends (append_in b a (term_right (ranges_of t.kind) t xs ys) n room) r o o1 s s1
-right-as b a t xs ys n room er e x = rw (e, er) at x
+right_as b a t xs ys n room er e x = rw (e, er) at x
 
-pub low-bare : {b : Book} {t : Text} {N : Numbered} → IsNamed b t (new_before [] false false) N → N.number ≤ size b names
+pub low_bare : {b : Book} {t : Text} {N : Numbered} → IsNamed b t (new_before [] false false) N → N.number ≤ size b names
 unfolding new_before optional
-low-bare h = omega (arith, h.low)
+low_bare h = omega (arith, h.low)

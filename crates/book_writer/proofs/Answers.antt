@@ -10,7 +10,7 @@ use borrow.Author.Tests.{lt-ltb, le-ltb}
 use Rattle.basics.specs.Outcome.{Outcome, refused, accepted, refuse, ◌>>◌, map_outcome}
 use Rattle.basics.specs.Buffer.{buffer_after}
 use Rattle.basics.specs.Write.{Wrote, overlay_at, WroteAt}
-use Rattle.basics.proofs.Laws.{take-overlay}
+use Rattle.basics.proofs.Laws.{take_overlay}
 use Rattle.basics.proofs.Places.{at_length}
 use Rattle.book.specs.Refusal.{number}
 use Rattle.book.specs.declared.Refusal.{Refusal}
@@ -19,7 +19,7 @@ use Rattle.book.specs.Book.{Book}
 use Rattle.book_test.specs.BookTest.{book_test, tested_value, book_test_call}
 use Rattle.book_test.specs.declared.Tested.{Tested}
 use Rattle.book_test.specs.declared.Tested.TheVariants.{Good, Refused}
-use Rattle.book_test.proofs.Answers.{ready-long}
+use Rattle.book_test.proofs.Answers.{ready_long}
 use Rattle.book_layout.specs.Layout.{book_most}
 use Rattle.book_growth.specs.Growth.{Addition, grown, grows_within}
 use Rattle.book_writer.specs.Writing.{Grown, numbers, book_of, appended_value}
@@ -27,28 +27,28 @@ use Rattle.book_writer.specs.Coded.{Spare, fitted, deliver, append_in, Copied, A
 use Rattle.book_writer.specs.declared.Appended.{Appended}
 use Rattle.book_writer.specs.declared.Appended.TheVariants as answer
 
-copied-refused : {o : Outcome Grown} (why : Refusal) (t : List ℕ) → o ≡ refused (number why) → Copied o (answer.Refused why) t t
+copied_refused : {o : Outcome Grown} (why : Refusal) (t : List ℕ) → o ≡ refused (number why) → Copied o (answer.Refused why) t t
 unfolding appended_value map_outcome buffer_after
-copied-refused why t e = record { answer = rw e; buffer = rw e }
+copied_refused why t e = record { answer = rw e; buffer = rw e }
 
-pub refused-with : {o : Outcome Grown} (why : Refusal) (t s : List ℕ) → o ≡ refused (number why) → Appends o (answer.Refused why) t t s s
-refused-with why t s e = record { copied = copied-refused why t e; scratch = refl }
+pub refused_with : {o : Outcome Grown} (why : Refusal) (t s : List ℕ) → o ≡ refused (number why) → Appends o (answer.Refused why) t t s s
+refused_with why t s e = record { copied = copied_refused why t e; scratch = refl }
 
 -- ---- a new book that passed its test: it fits, or not
-pub copied-short : (c : Book) (n : ℕ) {t : List ℕ} → length t < length c → Copied (fitted c n (length t)) (answer.Refused BufferTooShort) t t
-copied-short c n {t} h =
+pub copied_short : (c : Book) (n : ℕ) {t : List ℕ} → length t < length c → Copied (fitted c n (length t)) (answer.Refused BufferTooShort) t t
+copied_short c n {t} h =
     let short : fitted c n (length t) ≡ refused (number BufferTooShort) = unfold fitted refuse ◌>>◌ number in rw (lt-ltb (length t) (length c) h) in
-    copied-refused BufferTooShort t short
+    copied_refused BufferTooShort t short
 
-pub copied-whole : (c : Book) (n : ℕ) {t t' : List ℕ} {k : ℕ} → length c ≤ length t → Wrote c t t' k → Copied (fitted c n (length t)) (answer.Record n (length c)) t t'
+pub copied_whole : (c : Book) (n : ℕ) {t t' : List ℕ} {k : ℕ} → length c ≤ length t → Wrote c t t' k → Copied (fitted c n (length t)) (answer.Record n (length c)) t t'
 unfolding appended_value map_outcome buffer_after numbers book_of
-copied-whole c n {t} h w =
+copied_whole c n {t} h w =
     let fits : fitted c n (length t) ≡ accepted (record { number = n; book = c }) = unfold fitted refuse ◌>>◌ in rw (le-ltb (length t) (length c) h) in
     record { answer = rw fits; buffer = rw fits w.shown }
 
-deliver-stops : (c : Book) (n room : ℕ) {k : ℕ} → book_test c ≡ refused k → deliver c n room ≡ refused k
+deliver_stops : (c : Book) (n room : ℕ) {k : ℕ} → book_test c ≡ refused k → deliver c n room ≡ refused k
 unfolding deliver ◌>>◌
-deliver-stops c n room e = rw e
+deliver_stops c n room e = rw e
 
 pub refused_as : {d : Tested} {why : Refusal} → d ≡ Refused why → tested_value d ≡ refused (number why)
 unfolding tested_value
@@ -56,35 +56,35 @@ refused_as e = rw e
 
 -- ---- the test of the new book, with the scratch that the first test left
 module _ (c : Book) (s : List ℕ) (S : Spare s) (d : Tested) {s1 : List ℕ} (tested : (tested_value d ≡ (book_test_call c s).answer) × (s1 ≡ (book_test_call c s).scratch)) where
-  tested-as : tested_value d ≡ book_test c
+  tested_as : tested_value d ≡ book_test c
   unfolding book_test_call
-  tested-as = tested.0 ∙ sym (ready-long c (length s) S.long)
+  tested_as = tested.0 ∙ sym (ready_long c (length s) S.long)
 
-  clean-again : s1 ≡ s
+  clean_again : s1 ≡ s
   unfolding book_test_call
-  clean-again = tested.1 ∙ S.clean
+  clean_again = tested.1 ∙ S.clean
 
-  pub test-refused : {why : Refusal} (n room : ℕ) (t : List ℕ) → d ≡ Refused why → Appends (deliver c n room) (answer.Refused why) t t s s1
-  test-refused {why} n room t e =
-      rw clean-again (refused-with why t s (deliver-stops c n room (sym tested-as ∙ refused_as e)))
+  pub test_refused : {why : Refusal} (n room : ℕ) (t : List ℕ) → d ≡ Refused why → Appends (deliver c n room) (answer.Refused why) t t s s1
+  test_refused {why} n room t e =
+      rw clean_again (refused_with why t s (deliver_stops c n room (sym tested_as ∙ refused_as e)))
 
   pub test_good : (n room : ℕ) {r : Appended} {t t' : List ℕ} → d ≡ Good → Copied (fitted c n room) r t t' → Appends (deliver c n room) r t t' s s1
   unfolding deliver tested_value ◌>>◌
   test_good n room e a =
-      let ok : book_test c ≡ accepted tt = sym tested-as ∙ ap tested_value e in
-      record { copied = rw ok a; scratch = clean-again }
+      let ok : book_test c ≡ accepted tt = sym tested_as ∙ ap tested_value e in
+      record { copied = rw ok a; scratch = clean_again }
 
 -- ---- behind refusal 7
 module _ (b : Book) (a : Addition) (right : Bool) (n : ℕ) (t s : List ℕ) where
-  pub over-limit : {w : Bool} → w ≡ grows_within b a → not w ≡ true → Appends (append_in b a right n (length t)) (answer.Refused CountOverLimit) t t s s
-  over-limit {w} e h =
+  pub over_limit : {w : Bool} → w ≡ grows_within b a → not w ≡ true → Appends (append_in b a right n (length t)) (answer.Refused CountOverLimit) t t s s
+  over_limit {w} e h =
       let stopped : append_in b a right n (length t) ≡ refused (number CountOverLimit) = unfold append_in refuse ◌>>◌ number in rw (← e, h) in
-      refused-with CountOverLimit t s stopped
+      refused_with CountOverLimit t s stopped
 
-  pub handed-wrong : grows_within b a ≡ true → not right ≡ true → Appends (append_in b a right n (length t)) (answer.Refused FieldOutOfRange) t t s s
-  handed-wrong e h =
+  pub handed_wrong : grows_within b a ≡ true → not right ≡ true → Appends (append_in b a right n (length t)) (answer.Refused FieldOutOfRange) t t s s
+  handed_wrong e h =
       let stopped : append_in b a right n (length t) ≡ refused (number FieldOutOfRange) = unfold append_in refuse ◌>>◌ number in rw (e, h) in
-      refused-with FieldOutOfRange t s stopped
+      refused_with FieldOutOfRange t s stopped
 
   pub handed-right : {r : Appended} {t' s' : List ℕ} → grows_within b a ≡ true → not right ≡ false → Appends (deliver (grown b a) n (length t)) r t t' s s' → Appends (append_in b a right n (length t)) r t t' s s'
   unfolding append_in refuse ◌>>◌
@@ -92,18 +92,18 @@ module _ (b : Book) (a : Addition) (right : Bool) (n : ℕ) (t s : List ℕ) whe
 
 -- ---- the new book in its buffer
 module _ {c o o' : List ℕ} {r : ℕ} (w : WroteAt c 0 o o' r) (few : length c ≤ book_most) (room : length o ≡ book_most) where
-  laid-length : r ≡ length c
-  laid-length = omega (arith, w.counted)
+  laid_length : r ≡ length c
+  laid_length = omega (arith, w.counted)
 
-  pub laid-fits : r ≤ length o'
-  laid-fits = omega (arith, laid-length, at_length w)
+  pub laid_fits : r ≤ length o'
+  laid_fits = omega (arith, laid_length, at_length w)
 
-  pub laid-part : r ≡ length (take r o')
-  laid-part = sym (length-take-le r o' laid-fits)
+  pub laid_part : r ≡ length (take r o')
+  laid_part = sym (length-take-le r o' laid_fits)
 
-  pub laid-whole : take r o' ≡ c
+  pub laid_whole : take r o' ≡ c
   unfolding overlay_at
-  laid-whole = rw (laid-length, w.shown) (take-overlay c o (omega arith))
+  laid_whole = rw (laid_length, w.shown) (take_overlay c o (omega arith))
 
 pub laid_as : {c d : Book} (n room : ℕ) {r : Appended} {t t' s s' : List ℕ} → d ≡ c → Appends (deliver d n room) r t t' s s' → Appends (deliver c n room) r t t' s s'
 laid_as n room e a = rw e at a

@@ -18,7 +18,7 @@ use Rattle.book.specs.Book.{Book, terms, contexts, size}
 use Rattle.book_test.specs.BookTest.{ready, tested_value, book_test_call}
 use Rattle.book_test.specs.declared.Tested.{Tested}
 use Rattle.book_test.specs.declared.Tested.TheVariants.{Good, Refused}
-use Rattle.book_test.proofs.Outcomes.{ready-passed}
+use Rattle.book_test.proofs.Outcomes.{ready_passed}
 use Rattle.book_test.proofs.Answers.{zeroed}
 use Rattle.book_test.proofs.Promise.{promise}
 use Rattle.book_writer.specs.Growths.{Growth, extend, outside_at, outside}
@@ -26,7 +26,7 @@ use Rattle.book_writer.specs.Writing.{grow, lent, grown_left, outcome_of, grow_c
 use Rattle.book_writer.specs.Coded.{Spare, Ready, fitted, deliver, append_in, grow_below, grow_in, Appends}
 use Rattle.book_writer.specs.declared.Appended.{Appended}
 use Rattle.book_writer.specs.declared.Appended.TheVariants as answer
-use Rattle.book_writer.proofs.Answers.{refused-with, refused_as}
+use Rattle.book_writer.proofs.Answers.{refused_with, refused_as}
 
 -- ---- the scratch that a test leaves
 spare : (s : List ℕ) → scratch_least ≤ length s → Spare (scratch_after s)
@@ -35,18 +35,18 @@ spare s h =
     rw (← zeroed s h) (record { long = omega arith; clean = sym (zeroed (replicate (length s) 0) (omega arith)) ∙ ap (λ (n : ℕ). replicate n 0) l })
 
 -- ---- the call whole
-by-steps : (scratch : ℕ) (b : Book) (g : Growth) (room : ℕ) → grow scratch b g room ≡ (ready scratch b >> grow_in b g room)
+by_steps : (scratch : ℕ) (b : Book) (g : Growth) (room : ℕ) → grow scratch b g room ≡ (ready scratch b >> grow_in b g room)
 unfolding grow grow_in grow_below append_in deliver fitted
-by-steps scratch b g room = refl
+by_steps scratch b g room = refl
 
 module _ (b : Book) (s : List ℕ) (d : Tested) {s1 : List ℕ} (tested : (tested_value d ≡ (book_test_call b s).answer) × (s1 ≡ (book_test_call b s).scratch)) where
   answered : tested_value d ≡ ready (length s) b
   unfolding book_test_call
   answered = tested.0
 
-  scratch-left : s1 ≡ scratch_after s
+  scratch_left : s1 ≡ scratch_after s
   unfolding book_test_call
-  scratch-left = tested.1
+  scratch_left = tested.1
 
   passed : d ≡ Good → ready (length s) b ≡ accepted tt
   unfolding tested_value
@@ -54,39 +54,39 @@ module _ (b : Book) (s : List ℕ) (d : Tested) {s1 : List ℕ} (tested : (teste
 
   pub ready_for : d ≡ Good → Ready b s1
   ready_for e =
-      let r = ready-passed (length s) b (passed e) in
-      record { tested = r.1; promise = promise b r.1; spare = rw scratch-left (spare s r.0) }
+      let r = ready_passed (length s) b (passed e) in
+      record { tested = r.1; promise = promise b r.1; spare = rw scratch_left (spare s r.0) }
 
-  pub call-refused : (g : Growth) (t : List ℕ) {why : Refusal} → d ≡ Refused why → Returned (grow_call b (lent g s t)) (answer.Refused why) t s1
+  pub call_refused : (g : Growth) (t : List ℕ) {why : Refusal} → d ≡ Refused why → Returned (grow_call b (lent g s t)) (answer.Refused why) t s1
   unfolding grow_call grown_left outcome_of appended_value map_outcome buffer_after ◌>>◌
-  call-refused g t {why} e =
+  call_refused g t {why} e =
       let stopped : ready (length s) b ≡ refused (number why) = sym answered ∙ refused_as e in
-      rw (by-steps (length s) b g (length t), stopped) (record { answer = refl; buffer' = refl; scratch'' = scratch-left })
+      rw (by_steps (length s) b g (length t), stopped) (record { answer = refl; buffer' = refl; scratch'' = scratch_left })
 
-  pub call-good : (g : Growth) (t : List ℕ) {r : Appended} {t1 s2 : List ℕ} → d ≡ Good → Appends (grow_in b g (length t)) r t t1 s1 s2 → Returned (grow_call b (lent g s t)) r t1 s2
+  pub call_good : (g : Growth) (t : List ℕ) {r : Appended} {t1 s2 : List ℕ} → d ≡ Good → Appends (grow_in b g (length t)) r t t1 s1 s2 → Returned (grow_call b (lent g s t)) r t1 s2
   unfolding grow_call grown_left outcome_of ◌>>◌
-  call-good g t e a = rw (by-steps (length s) b g (length t), passed e) (record { answer = a.copied.answer; buffer' = a.copied.buffer; scratch'' = a.scratch ∙ scratch-left })
+  call_good g t e a = rw (by_steps (length s) b g (length t), passed e) (record { answer = a.copied.answer; buffer' = a.copied.buffer; scratch'' = a.scratch ∙ scratch_left })
 
 -- ---- refusal 7
 module _ (b : Book) (g : Growth) where
-  pub not-in-book : (t s : List ℕ) → outside b g ≡ true → Appends (grow_in b g (length t)) (answer.Refused NotInBook) t t s s
-  not-in-book t s e = refused-with NotInBook t s (stops e)
+  pub not_in_book : (t s : List ℕ) → outside b g ≡ true → Appends (grow_in b g (length t)) (answer.Refused NotInBook) t t s s
+  not_in_book t s e = refused_with NotInBook t s (stops e)
     where
       stops : outside b g ≡ true → grow_in b g (length t) ≡ refused (number NotInBook)
       stops h = unfold grow_in refuse ◌>>◌ number in rw h
 
-  pub in-book : (room : ℕ) {r : Appended} {t t1 s s1 : List ℕ} → outside b g ≡ false → Appends (grow_below b g room) r t t1 s s1 → Appends (grow_in b g room) r t t1 s s1
+  pub in_book : (room : ℕ) {r : Appended} {t t1 s s1 : List ℕ} → outside b g ≡ false → Appends (grow_below b g room) r t t1 s s1 → Appends (grow_in b g room) r t t1 s s1
   unfolding grow_in refuse ◌>>◌
-  in-book room e a = rw e a
+  in_book room e a = rw e a
 
 module _ (b : Book) {k : ℕ} (p t : ℕ) (many : k ≡ size b contexts) where
-  pub parent-outside : k < p → true ≡ outside_at b p t
+  pub parent_outside : k < p → true ≡ outside_at b p t
   unfolding outside_at
-  parent-outside h = rw (lt-ltb (size b contexts) p (omega arith))
+  parent_outside h = rw (lt-ltb (size b contexts) p (omega arith))
 
-  pub term-decides : {m : ℕ} → p ≤ k → m ≡ size b terms → leb m t ≡ outside_at b p t
+  pub term_decides : {m : ℕ} → p ≤ k → m ≡ size b terms → leb m t ≡ outside_at b p t
   unfolding outside_at
-  term-decides h e = rw (le-ltb (size b contexts) p (omega arith), e)
+  term_decides h e = rw (le-ltb (size b contexts) p (omega arith), e)
 
 -- ---- a trace under its flag
 module _ (b : Book) (p t : ℕ) (trace : Text) (room : ℕ) (flag : Bool) {r : Appended} {o o1 s s1 : List ℕ} where

@@ -22,8 +22,8 @@ use Rattle.book_writer.specs.Growths.{record_term, record_trace_point, outside_a
 use Rattle.book_writer.specs.Coded.{grow_below, Appends, term_of, probe_by, probe_below}
 use Rattle.book_writer.specs.declared.Appended.{Appended}
 
-pub probe-short : {d : ℕ} {r : ProbeName} → IsProbeName d r → length (take r.length r.text) ≤ probe_most
-probe-short {d} {r} h = omega (arith, length-take-le r.length r.text h.within, h.short)
+pub probe_short : {d : ℕ} {r : ProbeName} → IsProbeName d r → length (take r.length r.text) ≤ probe_most
+probe_short {d} {r} h = omega (arith, length-take-le r.length r.text h.within, h.short)
 
 -- a path's length is its node's depth
 depth_is : (b : Book) (n : ℕ) {r : path-code.Path} → IsPath b n r → r.depth ≡ depth (program b) n
@@ -31,13 +31,13 @@ unfolding depth
 depth_is b n {r} h = sym (length-take-le r.depth r.nodes h.within) ∙ ap length h.is
 
 module _ (b : Book) (p : ℕ) (t : Option ℕ) (typ : ℕ) (trace : Option Text) (room : ℕ) {q : path-code.Path} {r : ProbeName} {x : Appended} {o o1 s s1 : List ℕ} where
-  pub probe-as : IsPath b p q → IsProbeName q.depth r → Appends (probe_by b (take r.length r.text) p t typ trace room) x o o1 s s1 → Appends (probe_below b p t typ trace room) x o o1 s s1
+  pub probe_as : IsPath b p q → IsProbeName q.depth r → Appends (probe_by b (take r.length r.text) p t typ trace room) x o o1 s s1 → Appends (probe_below b p t typ trace room) x o o1 s s1
   unfolding probe_below
-  probe-as h k a = rw (k.is ∙ ap probe_name (depth_is b p h)) at a
+  probe_as h k a = rw (k.is ∙ ap probe_name (depth_is b p h)) at a
 
-pub inside-parent : (b : Book) (p t : ℕ) → outside_at b p t ≡ false → p ≤ size b contexts
+pub inside_parent : (b : Book) (p t : ℕ) → outside_at b p t ≡ false → p ≤ size b contexts
 unfolding outside_at
-inside-parent b p t e = ltb-false (size b contexts) p (or_left _ _ e)
+inside_parent b p t e = ltb-false (size b contexts) p (or_left _ _ e)
 
 module _ (b : Book) (room : ℕ) {x : Appended} {o o1 s s1 : List ℕ} where
   pub recorded : (p t typ : ℕ) (trace : Option Text) → Appends (probe_below b p (term_of false t) typ trace room) x o o1 s s1 → Appends (grow_below b (record_term p t typ trace) room) x o o1 s s1

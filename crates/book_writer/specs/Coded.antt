@@ -108,6 +108,6 @@ pub record IsEquality (b : Book) (term : Option ℕ) (r : ℕ) : Type 0 where
 pub record AreRows (b : Book) (probe operator trace parent typ : ℕ) (term : Option ℕ) (r : rows_code.ProbeRows) : Type 0 where
   pub constant : r.constant ≡ rows (map constant_row (new_constant probe typ ∷ []))
   pub terms : take r.terms_length r.terms ≡ rows (map term_row (probe_terms b operator term))
-  pub terms-fit : r.terms_length ≤ length r.terms
+  pub terms_fit : r.terms_length ≤ length r.terms
   pub node : r.node ≡ rows (map node_row (new_node parent (probe_equality b term) (suc trace) ∷ []))
   pub entries : r.entries ≡ probe_lists b term

@@ -29,7 +29,7 @@ grow scratch b g room = do
   accepted (record { number = number_of b g; book = grown b (addition_of b g) })
 
 -- what an accepted call keeps: the new book passes the test, every old record stands in it under its number, every old term is what it
--- was, and its program extends the old one (proved in proofs/Writing.antt, grow-kept)
+-- was, and its program extends the old one (proved in proofs/Writing.antt, grow_kept)
 pub record OldKept (b c : Book) : Type 0 where
   pub grows : Grows b c
   pub records : Kept b c

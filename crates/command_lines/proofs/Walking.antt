@@ -16,8 +16,8 @@ byte_inside [] k h = absurd (omega arith)
 byte_inside (c ∷ s) zero h = refl
 byte_inside (c ∷ s) (suc k) h = byte_inside s k (omega arith)
 
-pub byte-behind : (s : Text) (k : ℕ) → length s ≤ k → newline ≡ get_or s k newline
-byte-behind s k h = sym (get_or-eq_default s newline {n = k} h)
+pub byte_behind : (s : Text) (k : ℕ) → length s ≤ k → newline ≡ get_or s k newline
+byte_behind s k h = sym (get_or-eq_default s newline {n = k} h)
 
 -- a byte that is no line end stands in the text
 pub inside : (s : Text) (k : ℕ) → (get_or s k newline ≡ newline → ⊥) → k < length s
@@ -28,23 +28,23 @@ inside s k h = at (dec_lt k (length s))
     at (no l) = absurd (h (get_or-eq_default s newline {n = k} (omega arith)))
 
 -- the line ends here
-pub line-stop : (s : Text) (k : ℕ) → get_or s k newline ≡ newline → line_at s k ≡ []
+pub line_stop : (s : Text) (k : ℕ) → get_or s k newline ≡ newline → line_at s k ≡ []
 unfolding line_at line_of line_by
-line-stop s k e = at (dec_lt k (length s))
+line_stop s k e = at (dec_lt k (length s))
   where
     at : Dec (k < length s) → line_of (drop k s) ≡ []
     at (yes l) = rw (drop-cons s k newline l, eq-eqb (get_or s k newline) newline e)
     at (no l) = rw (drop_of_length-le s {i = k} (omega arith))
 
 -- or goes on
-pub line-more : (s : Text) (k : ℕ) → (get_or s k newline ≡ newline → ⊥) → line_at s k ≡ get_or s k newline ∷ line_at s (k + 1)
+pub line_more : (s : Text) (k : ℕ) → (get_or s k newline ≡ newline → ⊥) → line_at s k ≡ get_or s k newline ∷ line_at s (k + 1)
 unfolding line_at line_of line_by
-line-more s k h = rw (drop-cons s k newline (inside s k h), ne_eqb (get_or s k newline) newline h, add-one k)
+line_more s k h = rw (drop-cons s k newline (inside s k h), ne_eqb (get_or s k newline) newline h, add-one k)
 
-pub end-here : (s : Text) (k : ℕ) → get_or s k newline ≡ newline → line_end s k ≡ k
+pub end_here : (s : Text) (k : ℕ) → get_or s k newline ≡ newline → line_end s k ≡ k
 unfolding line_end
-end-here s k e = rw (line-stop s k e) (omega arith)
+end_here s k e = rw (line_stop s k e) (omega arith)
 
 pub end_later : (s : Text) (k : ℕ) → (get_or s k newline ≡ newline → ⊥) → line_end s k ≡ line_end s (k + 1)
 unfolding line_end
-end_later s k h = rw (line-more s k h) (omega arith)
+end_later s k h = rw (line_more s k h) (omega arith)

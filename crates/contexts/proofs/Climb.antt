@@ -8,26 +8,26 @@ use lib.Seq.{take-suc-set}
 use Rattle.book.specs.Book.{Book, contexts, size, field, depth_most}
 use Rattle.book.specs.Program.{node_at, path_up, path, depth}
 use Rattle.book.specs.Decode.{program}
-use Rattle.book.proofs.Paths.{path-step}
+use Rattle.book.proofs.Paths.{path_step}
 use Rattle.book_test.specs.Promise.{Promise}
-use Rattle.book_test.proofs.Depth.{parent-at}
-use Rattle.book_test.proofs.EveryTerm.{parent-below}
+use Rattle.book_test.proofs.Depth.{parent_at}
+use Rattle.book_test.proofs.EveryTerm.{parent_below}
 
 pub parent_is : (b : Book) (node r : ℕ) → 0 < node → node ≤ size b contexts → r ≡ field b contexts (node - 1) 0 → r ≡ (node_at (program b) node).parent
 parent_is b zero r h l e = absurd (omega arith)
 parent_is b (suc k) r h l e =
     let z : suc k - 1 ≡ k = omega arith in
-    (rw z at e) ∙ sym (parent-at b k (omega arith))
+    (rw z at e) ∙ sym (parent_at b k (omega arith))
 
-pub parent-smaller : (b : Book) → Promise b → (node r : ℕ) → 0 < node → r ≡ (node_at (program b) node).parent → r < node
-parent-smaller b P zero r h e = absurd (omega arith)
-parent-smaller b P (suc k) r h e = omega (arith, parent-below b P k)
+pub parent_smaller : (b : Book) → Promise b → (node r : ℕ) → 0 < node → r ≡ (node_at (program b) node).parent → r < node
+parent_smaller b P zero r h e = absurd (omega arith)
+parent_smaller b P (suc k) r h e = omega (arith, parent_below b P k)
 
 -- no node of an accepted book is deeper than the limit
-pub depth-few : (b : Book) → Promise b → (n : ℕ) → n ≤ size b contexts → length (path (program b) n) ≤ depth_most
+pub depth_few : (b : Book) → Promise b → (n : ℕ) → n ≤ size b contexts → length (path (program b) n) ≤ depth_most
 unfolding path path_up depth
-depth-few b P zero l = omega arith
-depth-few b P (suc k) l = P.shallow k l
+depth_few b P zero l = omega arith
+depth_few b P (suc k) l = P.shallow k l
 
 -- the nodes found so far, and those still above
 pub record Climbing (b : Book) (node : ℕ) (nodes : List ℕ) (depth n : ℕ) : Type 0 where
@@ -36,30 +36,30 @@ pub record Climbing (b : Book) (node : ℕ) (nodes : List ℕ) (depth n : ℕ) :
   pub inside : n ≤ size b contexts
   pub long : length nodes ≡ depth_most
 
-pub climbing-start : (b : Book) → Promise b → (node : ℕ) → node ≤ size b contexts → (nodes : List ℕ) → length nodes ≡ depth_most → Climbing b node nodes 0 node
-climbing-start b P node l nodes e = record { found = refl; room = omega (arith, depth-few b P node l); inside = l; long = e }
+pub climbing_start : (b : Book) → Promise b → (node : ℕ) → node ≤ size b contexts → (nodes : List ℕ) → length nodes ≡ depth_most → Climbing b node nodes 0 node
+climbing_start b P node l nodes e = record { found = refl; room = omega (arith, depth_few b P node l); inside = l; long = e }
 
-pub climbing-room : {b : Book} {node : ℕ} {nodes : List ℕ} {depth n : ℕ} → Promise b → 0 < n → Climbing b node nodes depth n → depth < depth_most
-climbing-room {b} {n = n} P h c =
-    let s = path-step (program b) (parent-below b P) n h in
+pub climbing_room : {b : Book} {node : ℕ} {nodes : List ℕ} {depth n : ℕ} → Promise b → 0 < n → Climbing b node nodes depth n → depth < depth_most
+climbing_room {b} {n = n} P h c =
+    let s = path_step (program b) (parent_below b P) n h in
     omega (arith, c.room, ap length s)
 
-pub climbing-more : {b : Book} {node : ℕ} {nodes : List ℕ} {depth n : ℕ} (r : ℕ) → Promise b → 0 < n → Climbing b node nodes depth n → r ≡ (node_at (program b) n).parent
+pub climbing_more : {b : Book} {node : ℕ} {nodes : List ℕ} {depth n : ℕ} (r : ℕ) → Promise b → 0 < n → Climbing b node nodes depth n → r ≡ (node_at (program b) n).parent
     → Climbing b node (set nodes depth n) (suc depth) r
-climbing-more {b} {node} {nodes} {depth} {n} r P h c e =
-    let s = path-step (program b) (parent-below b P) n h in
-    let room : depth < length nodes = omega (arith, climbing-room P h c, c.long) in
+climbing_more {b} {node} {nodes} {depth} {n} r P h c e =
+    let s = path_step (program b) (parent_below b P) n h in
+    let room : depth < length nodes = omega (arith, climbing_room P h c, c.long) in
     let up : path (program b) n ≡ n ∷ path (program b) r = s ∙ ap {B = List ℕ} (λ (x : ℕ). n ∷ path (program b) x) (sym e) in
     record {
       found =
           ap (λ (l : List ℕ). l ++ path (program b) r) (take-suc-set nodes depth n room) ∙ append_assoc (take depth nodes) (n ∷ []) (path (program b) r)
           ∙ ap (λ (l : List ℕ). take depth nodes ++ l) (sym up) ∙ c.found;
       room = omega (arith, c.room, ap length up);
-      inside = omega (arith, c.inside, parent-smaller b P n r h e);
+      inside = omega (arith, c.inside, parent_smaller b P n r h e);
       long = length-set nodes depth n ∙ c.long;
     }
 
 -- at the root nothing is above
-pub climbing-done : {b : Book} {node : ℕ} {nodes : List ℕ} {depth n : ℕ} → n ≡ 0 → Climbing b node nodes depth n → take depth nodes ≡ path (program b) node
+pub climbing_done : {b : Book} {node : ℕ} {nodes : List ℕ} {depth n : ℕ} → n ≡ 0 → Climbing b node nodes depth n → take depth nodes ≡ path (program b) node
 unfolding path path_up
-climbing-done {b} {node} {nodes} {depth} e c = sym (append-nil (take depth nodes)) ∙ (rw e at c.found)
+climbing_done {b} {node} {nodes} {depth} e c = sym (append-nil (take depth nodes)) ∙ (rw e at c.found)

@@ -12,9 +12,9 @@ use Rattle.basics.proofs.All.{all-at}
 use Rattle.book.specs.Book.{Book, contexts, size, depth_most}
 use Rattle.book.specs.Program.{path}
 use Rattle.book.specs.Decode.{program}
-use Rattle.book.proofs.Paths.{path-below}
+use Rattle.book.proofs.Paths.{path_below}
 use Rattle.book_test.specs.Promise.{Promise}
-use Rattle.book_test.proofs.EveryTerm.{parent-below}
+use Rattle.book_test.proofs.EveryTerm.{parent_below}
 use Rattle.contexts.specs.Path.{IsBelow}
 
 -- before the first line
@@ -23,9 +23,9 @@ none_above nodes whole = drop_of_length-le (take whole nodes) {i = whole} (omega
 
 module _ (nodes : List ℕ) (whole : ℕ) (long : length nodes ≡ depth_most) (few : whole ≤ depth_most) where
   -- `lines` has a line for each node of a list, the first node's last
-  pub line-below : (lines : List ℕ → Text) (line : ℕ → Text) → ((n : ℕ) (ns : List ℕ) → lines (n ∷ ns) ≡ lines ns ++ line n) → (depth : ℕ) → 0 < depth → depth ≤ whole
+  pub line_below : (lines : List ℕ → Text) (line : ℕ → Text) → ((n : ℕ) (ns : List ℕ) → lines (n ∷ ns) ≡ lines ns ++ line n) → (depth : ℕ) → 0 < depth → depth ≤ whole
       → lines (drop depth (take whole nodes)) ++ line (get_or nodes (depth - 1) 0) ≡ lines (drop (depth - 1) (take whole nodes))
-  line-below lines line next depth h l =
+  line_below lines line next depth h l =
       let i : depth - 1 < length (take whole nodes) = omega (arith, length-take whole nodes) in
       let e : suc (depth - 1) ≡ depth = omega arith in
       let head : get_or (take whole nodes) (depth - 1) 0 ≡ get_or nodes (depth - 1) 0 = get_or-take whole nodes (depth - 1) 0 (omega arith) in
@@ -33,16 +33,16 @@ module _ (nodes : List ℕ) (whole : ℕ) (long : length nodes ≡ depth_most) (
 
   module _ (b : Book) (P : Promise b) (node : ℕ) (inside : node ≤ size b contexts) (is : take whole nodes ≡ path (program b) node) where
     -- the next node down
-    pub node-below : (i : ℕ) → i < whole → IsBelow b (get_or nodes i 0)
-    node-below i h =
+    pub node_below : (i : ℕ) → i < whole → IsBelow b (get_or nodes i 0)
+    node_below i h =
         let l : i < length (path (program b) node) = omega (arith, ap length is, length-take whole nodes) in
         let e : get_or (path (program b) node) i 0 ≡ get_or nodes i 0 = ap (λ (ns : List ℕ). get_or ns i 0) (sym is) ∙ get_or-take whole nodes i 0 h in
-        let r = rw e at (all-at (path-below (program b) (parent-below b P) node) i 0 l) in
+        let r = rw e at (all-at (path_below (program b) (parent_below b P) node) i 0 l) in
         record { promise = P; inside = omega (arith, r.1, inside); below = r.0 }
 
     -- its number, read from two bytes
-    pub node-fits : (i : ℕ) → i < whole → Fits w64 (get_or nodes i 0)
-    node-fits i h = omega (arith, (node-below i h).inside, P.contexts-laid.few)
+    pub node_fits : (i : ℕ) → i < whole → Fits w64 (get_or nodes i 0)
+    node_fits i h = omega (arith, (node_below i h).inside, P.contexts_laid.few)
 
     -- all lines
     pub all_lines : (lines : List ℕ → Text) {depth : ℕ} → depth ≡ 0 → lines (drop depth (take whole nodes)) ≡ lines (path (program b) node)

@@ -9,8 +9,8 @@ use mathlib.Core.Bool.{Bool, true, false, ◌||◌, or-true, false≢true}
 use mathlib.Core.List.{List, [], ◌∷◌, ◌++◌, append_assoc, append-nil}
 use borrow.Author.Tests.{eqb-true}
 use Rattle.basics.specs.Text.{Text, same}
-use Rattle.basics.proofs.All.{All, end, more, all_append, all-weaken}
-use Rattle.basics.proofs.Texts.{same-eq, same_refl}
+use Rattle.basics.proofs.All.{All, end, more, all_append, all_weaken}
+use Rattle.basics.proofs.Texts.{same_eq, same_refl}
 use Rattle.book.specs.RExpr.{RExpr}
 use Rattle.book.specs.Book.{Book}
 use Rattle.book.specs.Decode.{constant_of, function_of}
@@ -19,11 +19,11 @@ use Rattle.solver_expr.specs.Lowering.{literal_name}
 use Rattle.smt_engines.specs.Command.{Command}
 use Rattle.rsolver.specs.Methods.{Marker, type, constant, function, axiom'}
 use Rattle.rsolver.specs.SolverState.{same_marker, is_in, with'}
-use Rattle.rsolver.proofs.Sets.{marker-eq, marker-refl, in-with}
+use Rattle.rsolver.proofs.Sets.{marker_eq, marker_refl, in_with}
 use Rattle.declared_once.specs.Symbols.{Symbol, a_sort, a_constant, a_function, a_literal, sorts_of, symbols_of, declared_by, declaration_of, asserted, same_name, named_by, declares_name, times}
 use Rattle.declared_once.specs.ToldApart.{sort_of, prints_apart}
 use Rattle.declared_once.proofs.Lists.{bool_same, times-append}
-use Rattle.declared_once.proofs.Unique.{Of, name-refl, literal-names, unique}
+use Rattle.declared_once.proofs.Unique.{Of, name_refl, literal-names, unique}
 use Rattle.declared_once.proofs.OfBook.{asked}
 
 -- ---- under what a symbol stands in the bodies' sets: a marker, or a literal's name
@@ -61,31 +61,31 @@ names_with (by_name t) ns = with' same t ns
 
 has_more : (k j : Key) (ds : List Marker) (ns : List Text) → has_key k (markers_with j ds) (names_with j ns) ≡ (same_key k j || has_key k ds ns)
 unfolding has_key markers_with names_with same_key
-has_more (by_marker m) (by_marker n) ds ns = in-with same_marker marker-eq m n ds
+has_more (by_marker m) (by_marker n) ds ns = in_with same_marker marker_eq m n ds
 has_more (by_marker m) (by_name t) ds ns = refl
 has_more (by_name s) (by_marker n) ds ns = refl
-has_more (by_name s) (by_name t) ds ns = in-with same same-eq s t ns
+has_more (by_name s) (by_name t) ds ns = in_with same same_eq s t ns
 
-pub has-keeps : (x : Symbol) (j : Key) (ds : List Marker) (ns : List Text) → has x ds ns ≡ true → has x (markers_with j ds) (names_with j ns) ≡ true
+pub has_keeps : (x : Symbol) (j : Key) (ds : List Marker) (ns : List Text) → has x ds ns ≡ true → has x (markers_with j ds) (names_with j ns) ≡ true
 unfolding has
-has-keeps x j ds ns h = has_more (key x) j ds ns ∙ rw h (or-true (same_key (key x) j))
+has_keeps x j ds ns h = has_more (key x) j ds ns ∙ rw h (or-true (same_key (key x) j))
 
 -- an axiom's mark is no symbol's
-pub has-axiom : (x : Symbol) (k : ℕ) (ds : List Marker) (ns : List Text) → has x (with' same_marker (axiom' k) ds) ns ≡ has x ds ns
+pub has_axiom : (x : Symbol) (k : ℕ) (ds : List Marker) (ns : List Text) → has x (with' same_marker (axiom' k) ds) ns ≡ has x ds ns
 unfolding has has_key key same_marker
-has-axiom (a_sort d) k ds ns = in-with same_marker marker-eq (type d.number) (axiom' k) ds
-has-axiom (a_constant v) k ds ns = in-with same_marker marker-eq (constant v.number) (axiom' k) ds
-has-axiom (a_function f) k ds ns = in-with same_marker marker-eq (function f.number) (axiom' k) ds
-has-axiom (a_literal l) k ds ns = refl
+has_axiom (a_sort d) k ds ns = in_with same_marker marker_eq (type d.number) (axiom' k) ds
+has_axiom (a_constant v) k ds ns = in_with same_marker marker_eq (constant v.number) (axiom' k) ds
+has_axiom (a_function f) k ds ns = in_with same_marker marker_eq (function f.number) (axiom' k) ds
+has_axiom (a_literal l) k ds ns = refl
 
-key-refl : (k : Key) → same_key k k ≡ true
+key_refl : (k : Key) → same_key k k ≡ true
 unfolding same_key
-key-refl (by_marker m) = marker-refl m
-key-refl (by_name t) = same_refl t
+key_refl (by_marker m) = marker_refl m
+key_refl (by_name t) = same_refl t
 
-pub has-own : (x : Symbol) (ds : List Marker) (ns : List Text) → has x (markers_with (key x) ds) (names_with (key x) ns) ≡ true
+pub has_own : (x : Symbol) (ds : List Marker) (ns : List Text) → has x (markers_with (key x) ds) (names_with (key x) ns) ≡ true
 unfolding has
-has-own x ds ns = has_more (key x) (key x) ds ns ∙ rw (key-refl (key x))
+has_own x ds ns = has_more (key x) (key x) ds ns ∙ rw (key_refl (key x))
 
 -- ---- an assertion in a log, after what was sent before it
 abbrev pub Fine : List Command → Option RExpr → Type 0
@@ -100,30 +100,30 @@ pub sound_more : (before cs : List Command) (d : Command) → SoundAfter before 
 sound_more before [] d s f = (rw append-nil at f, tt)
 sound_more before (c ∷ cs) d s f = (s.0, sound_more (before ++ (c ∷ [])) cs d s.1 (rw (append_assoc before (c ∷ []) cs) f))
 
-pub sound-at : (before cs : List Command) (c : Command) (behind : List Command) → SoundAfter before (cs ++ (c ∷ behind)) → Fine (before ++ cs) (asserted c)
-sound-at before [] c behind s = rw append-nil s.0
-sound-at before (d ∷ cs) c behind s = rw (append_assoc before (d ∷ []) cs) at (sound-at (before ++ (d ∷ [])) cs c behind s.1)
+pub sound_at : (before cs : List Command) (c : Command) (behind : List Command) → SoundAfter before (cs ++ (c ∷ behind)) → Fine (before ++ cs) (asserted c)
+sound_at before [] c behind s = rw append-nil s.0
+sound_at before (d ∷ cs) c behind s = rw (append_assoc before (d ∷ []) cs) at (sound_at (before ++ (d ∷ [])) cs c behind s.1)
 
 -- ---- a symbol's own declaration
 none-some : {A B : Type 0} {x : A} → ◌≡◌ {A = Option A} none (some x) → B
 none-some h = let z : ◌≡◌ {A = ℕ} 0 1 = cc in absurd (omega arith)
 
-some-eq : {A : Type 0} {x y : A} → ◌≡◌ {A = Option A} (some x) (some y) → x ≡ y
-some-eq h = cc
+some_eq : {A : Type 0} {x y : A} → ◌≡◌ {A = Option A} (some x) (some y) → x ≡ y
+some_eq h = cc
 
-declared-is : (y : Symbol) → declared_by (declaration_of y) ≡ some y
+declared_is : (y : Symbol) → declared_by (declaration_of y) ≡ some y
 unfolding declared_by declaration_of
-declared-is (a_sort d) = refl
-declared-is (a_constant v) = refl
-declared-is (a_function f) = refl
-declared-is (a_literal l) = refl
+declared_is (a_sort d) = refl
+declared_is (a_constant v) = refl
+declared_is (a_function f) = refl
+declared_is (a_literal l) = refl
 
-declaration-quiet : (y : Symbol) → asserted (declaration_of y) ≡ none
+declaration_quiet : (y : Symbol) → asserted (declaration_of y) ≡ none
 unfolding declaration_of asserted
-declaration-quiet (a_sort d) = refl
-declaration-quiet (a_constant v) = refl
-declaration-quiet (a_function f) = refl
-declaration-quiet (a_literal l) = refl
+declaration_quiet (a_sort d) = refl
+declaration_quiet (a_constant v) = refl
+declaration_quiet (a_function f) = refl
+declaration_quiet (a_literal l) = refl
 
 module _ (b : Book) where
   -- what a command declares is a record of the book, and what it asserts names such records alone
@@ -140,50 +140,50 @@ module _ (b : Book) where
 
   module _ (T : prints_apart b ≡ true) where
     -- two symbols of the book that stand under one key are one
-    key-eq : (x y : Symbol) → Of b x → Of b y → same_key (key x) (key y) ≡ true → x ≡ y
+    key_eq : (x y : Symbol) → Of b x → Of b y → same_key (key x) (key y) ≡ true → x ≡ y
     unfolding same_key key same_marker sort_of constant_of function_of
-    key-eq (a_sort c) (a_sort d) o q e =
+    key_eq (a_sort c) (a_sort d) o q e =
         let n : o.0 ≡ q.0 = sym (ap (λ z. z.number) o.2) ∙ eqb-true c.number d.number e ∙ ap (λ z. z.number) q.2 in
         ap a_sort (o.2 ∙ ap (sort_of b) n ∙ sym q.2)
-    key-eq (a_sort c) (a_constant v) o q e = absurd (false≢true e)
-    key-eq (a_sort c) (a_function f) o q e = absurd (false≢true e)
-    key-eq (a_sort c) (a_literal l) o q e = absurd (false≢true e)
-    key-eq (a_constant w) (a_sort d) o q e = absurd (false≢true e)
-    key-eq (a_constant w) (a_constant v) o q e =
+    key_eq (a_sort c) (a_constant v) o q e = absurd (false≢true e)
+    key_eq (a_sort c) (a_function f) o q e = absurd (false≢true e)
+    key_eq (a_sort c) (a_literal l) o q e = absurd (false≢true e)
+    key_eq (a_constant w) (a_sort d) o q e = absurd (false≢true e)
+    key_eq (a_constant w) (a_constant v) o q e =
         let n : o.0 ≡ q.0 = sym (ap (λ z. z.number) o.2) ∙ eqb-true w.number v.number e ∙ ap (λ z. z.number) q.2 in
         ap a_constant (o.2 ∙ ap (constant_of b) n ∙ sym q.2)
-    key-eq (a_constant w) (a_function f) o q e = absurd (false≢true e)
-    key-eq (a_constant w) (a_literal l) o q e = absurd (false≢true e)
-    key-eq (a_function g) (a_sort d) o q e = absurd (false≢true e)
-    key-eq (a_function g) (a_constant v) o q e = absurd (false≢true e)
-    key-eq (a_function g) (a_function f) o q e =
+    key_eq (a_constant w) (a_function f) o q e = absurd (false≢true e)
+    key_eq (a_constant w) (a_literal l) o q e = absurd (false≢true e)
+    key_eq (a_function g) (a_sort d) o q e = absurd (false≢true e)
+    key_eq (a_function g) (a_constant v) o q e = absurd (false≢true e)
+    key_eq (a_function g) (a_function f) o q e =
         let n : o.0 ≡ q.0 = sym (ap (λ z. z.number) o.2) ∙ eqb-true g.number f.number e ∙ ap (λ z. z.number) q.2 in
         ap a_function (o.2 ∙ ap (function_of b) n ∙ sym q.2)
-    key-eq (a_function g) (a_literal l) o q e = absurd (false≢true e)
-    key-eq (a_literal m) (a_sort d) o q e = absurd (false≢true e)
-    key-eq (a_literal m) (a_constant v) o q e = absurd (false≢true e)
-    key-eq (a_literal m) (a_function f) o q e = absurd (false≢true e)
-    key-eq (a_literal m) (a_literal l) o q e = unique b T (a_literal m) (a_literal l) o q (literal-names m l (same-eq _ _ e))
+    key_eq (a_function g) (a_literal l) o q e = absurd (false≢true e)
+    key_eq (a_literal m) (a_sort d) o q e = absurd (false≢true e)
+    key_eq (a_literal m) (a_constant v) o q e = absurd (false≢true e)
+    key_eq (a_literal m) (a_function f) o q e = absurd (false≢true e)
+    key_eq (a_literal m) (a_literal l) o q e = unique b T (a_literal m) (a_literal l) o q (literal-names m l (same_eq _ _ e))
 
     -- under one key they stand exactly if they have one name
-    key-name : (x y : Symbol) → Of b x → Of b y → same_key (key x) (key y) ≡ same_name x y
-    key-name x y o q =
-        bool_same _ _ (λ e. rw (key-eq x y o q e) (name-refl y)) (λ e. rw (unique b T x y o q e) (key-refl (key y)))
+    key_name : (x y : Symbol) → Of b x → Of b y → same_key (key x) (key y) ≡ same_name x y
+    key_name x y o q =
+        bool_same _ _ (λ e. rw (key_eq x y o q e) (name_refl y)) (λ e. rw (unique b T x y o q e) (key_refl (key y)))
 
-    declared-more : (x y : Symbol) → Of b x → Of b y → (ds : List Marker) (ns : List Text)
+    declared_more : (x y : Symbol) → Of b x → Of b y → (ds : List Marker) (ns : List Text)
         → has x (markers_with (key y) ds) (names_with (key y) ns) ≡ (same_name x y || has x ds ns)
     unfolding has
-    declared-more x y o q ds ns = has_more (key x) (key y) ds ns ∙ rw (key-name x y o q)
+    declared_more x y o q ds ns = has_more (key x) (key y) ds ns ∙ rw (key_name x y o q)
 
     declares : (x y : Symbol) → declares_name x (declaration_of y) ≡ same_name x y
     unfolding declares_name named_by
-    declares x y = rw (declared-is y)
+    declares x y = rw (declared_is y)
 
-    known-declared : (y : Symbol) → Of b y → Known (declaration_of y)
-    known-declared y o =
+    known_declared : (y : Symbol) → Of b y → Known (declaration_of y)
+    known_declared y o =
         record {
-          declared = λ z e. let i : y ≡ z = some-eq (sym (declared-is y) ∙ e) in subst (λ z. Of b z × (declaration_of y ≡ declaration_of z)) i (o, refl);
-          asserts = λ e h. none-some (sym (declaration-quiet y) ∙ h);
+          declared = λ z e. let i : y ≡ z = some_eq (sym (declared_is y) ∙ e) in subst (λ z. Of b z × (declaration_of y ≡ declaration_of z)) i (o, refl);
+          asserts = λ e h. none-some (sym (declaration_quiet y) ∙ h);
         }
 
     -- one more command at a log's end
@@ -193,15 +193,15 @@ module _ (b : Book) where
 
     module _ {ds : List Marker} {ns : List Text} {log : List Command} (I : Inv ds ns log) where
       -- a symbol that is not declared yet, whose types are
-      pub inv-declare : (y : Symbol) → Of b y → has y ds ns ≡ false → All (λ z. has z ds ns ≡ true) (sorts_of y)
+      pub inv_declare : (y : Symbol) → Of b y → has y ds ns ≡ false → All (λ z. has z ds ns ≡ true) (sorts_of y)
           → Inv (markers_with (key y) ds) (names_with (key y) ns) (log ++ (declaration_of y ∷ []))
-      inv-declare y q new sorts =
+      inv_declare y q new sorts =
           record {
             counted = λ x o.
-                times_more x log (declaration_of y) ∙ rw (I.counted x o, declares x y, declared-more x y o q ds ns) (count x o (same_name x y) refl);
-            closed = λ x o h. all-weaken (λ z. has-keeps z (key y) ds ns) (close x o (same_name x y) refl (sym (declared-more x y o q ds ns) ∙ h));
-            known = all_append I.known (more (known-declared y q) end);
-            sound = sound_more [] log (declaration_of y) I.sound (rw (declaration-quiet y) tt);
+                times_more x log (declaration_of y) ∙ rw (I.counted x o, declares x y, declared_more x y o q ds ns) (count x o (same_name x y) refl);
+            closed = λ x o h. all_weaken (λ z. has_keeps z (key y) ds ns) (close x o (same_name x y) refl (sym (declared_more x y o q ds ns) ∙ h));
+            known = all_append I.known (more (known_declared y q) end);
+            sound = sound_more [] log (declaration_of y) I.sound (rw (declaration_quiet y) tt);
           }
         where
           was : (x : Symbol) → Of b x → same_name x y ≡ true → has x ds ns ≡ false
@@ -216,9 +216,9 @@ module _ (b : Book) where
           close x o false e h = I.closed x o h
 
       -- an assertion whose symbols are declared
-      pub inv-assert : (c : Command) (e : RExpr) → asserted c ≡ some e → declared_by c ≡ none → EveryR (asked b) e → All (Of b) (symbols_of e [])
+      pub inv_assert : (c : Command) (e : RExpr) → asserted c ≡ some e → declared_by c ≡ none → EveryR (asked b) e → All (Of b) (symbols_of e [])
           → All (λ x. has x ds ns ≡ true) (symbols_of e []) → Inv ds ns (log ++ (c ∷ []))
-      inv-assert c e a d every os hs =
+      inv_assert c e a d every os hs =
           record {
             counted = λ x o. times_more x log c ∙ rw (quiet x) (omega (arith, I.counted x o));
             closed = I.closed;
@@ -230,7 +230,7 @@ module _ (b : Book) where
           known =
               record {
                 declared = λ y h. none-some (sym d ∙ h);
-                asserts = λ f h. let i : e ≡ f = some-eq (sym a ∙ h) in subst (EveryR (asked b)) i every;
+                asserts = λ f h. let i : e ≡ f = some_eq (sym a ∙ h) in subst (EveryR (asked b)) i every;
               }
 
           quiet : (x : Symbol) → declares_name x c ≡ false
@@ -240,19 +240,19 @@ module _ (b : Book) where
           fine end end = end
           fine (more {a = x} o os) (more h hs) = more (I.counted x o ∙ rw h refl) (fine os hs)
 
-      pub inv-axiom : (k : ℕ) → Inv (with' same_marker (axiom' k) ds) ns log
-      inv-axiom k =
+      pub inv_axiom : (k : ℕ) → Inv (with' same_marker (axiom' k) ds) ns log
+      inv_axiom k =
           record {
-            counted = λ x o. rw (has-axiom x k ds ns) (I.counted x o);
-            closed = λ x o h. all-weaken (λ z g. has-axiom z k ds ns ∙ g) (I.closed x o (sym (has-axiom x k ds ns) ∙ h));
+            counted = λ x o. rw (has_axiom x k ds ns) (I.counted x o);
+            closed = λ x o h. all_weaken (λ z g. has_axiom z k ds ns ∙ g) (I.closed x o (sym (has_axiom x k ds ns) ∙ h));
             known = I.known;
             sound = I.sound;
           }
 
   -- nothing was sent
-  pub inv-start : Inv [] [] []
+  pub inv_start : Inv [] [] []
   unfolding times
-  inv-start = record { counted = λ x o. rw (nothing x) refl; closed = λ x o h. absurd (false≢true (sym (nothing x) ∙ h)); known = end; sound = tt }
+  inv_start = record { counted = λ x o. rw (nothing x) refl; closed = λ x o h. absurd (false≢true (sym (nothing x) ∙ h)); known = end; sound = tt }
     where
       nothing : (x : Symbol) → has x [] [] ≡ false
       nothing x = unfold has in at (key x)

@@ -11,11 +11,11 @@ use Rattle.book.specs.SType.{SConstant}
 use Rattle.book.specs.RExpr.{RExpr, RExprs, RPatterns, is_tag, ROperator, BuiltInOperator, UserDefinedFunction, Boolean, Integer, CustomLiteral, Id, FuncAppl, IfThenElse, LetExpr, QuantifierExpr, []ʳ, ◌∷ʳ◌, []ᵖ, ◌∷ᵖ◌}
 use Rattle.book.specs.Book.{Book, types, constants, functions, terms, size, field, name_text, user_types}
 use Rattle.book.specs.Program.{axiom_at, node_at}
-use Rattle.book.specs.Decode.{custom_literal, built_in, kind_of, type_of, constant_of, function_of, literal_of, term, program}
+use Rattle.book.specs.Decode.{custom_literal, built_in, kind_of, type_of, constant_of, function-of, literal_of, term, program}
 use Rattle.book.proofs.Every.{Asked, EveryR, EveryRs, EveryPs, EveryTerm}
 use Rattle.book_test.specs.Promise.{Promise}
-use Rattle.book_test.proofs.Entries.{entries-each}
-use Rattle.book_test.proofs.EveryTerm.{literal-good, every-term, every-node, every-axiom}
+use Rattle.book_test.proofs.Entries.{entries_each}
+use Rattle.book_test.proofs.EveryTerm.{literal_good, every_term, every_node, every_axiom}
 use Rattle.declared_once.specs.Symbols.{Symbol, a_sort, a_constant, a_function, a_literal, sorts_in, sorts_of_types, sorts_of_variables, sorts_of, with_sorts, operator_symbols, symbols_of, symbols_of_all, symbols_of_patterns, operator_names, operators_of, operators_of_all, operators_of_patterns}
 use Rattle.declared_once.specs.ToldApart.{sort_of}
 use Rattle.declared_once.proofs.Unique.{Of, OfOperator}
@@ -41,22 +41,22 @@ module _ (b : Book) (P : Promise b) where
   types_of (more {a = k} h hs) = all_append (type-of k h) (types_of hs)
 
   pub sorts-of : (x : Symbol) → Of b x → All (Of b) (sorts_of x)
-  unfolding sorts_of constant_of function_of literal_of
+  unfolding sorts_of constant_of function-of literal_of
   sorts-of (a_sort d) o = end
   sorts-of (a_constant v) o = rw o.2 (type-of _ (P.constant o.0 o.1).typ)
   sorts-of (a_function f) o =
       rw o.2
-      (all_append (types_of (entries-each b (λ k. k < user_types + size b types) _ _ (P.function o.0 o.1).input_types.below)) (type-of _ (P.function o.0 o.1).typ))
-  sorts-of (a_literal l) o = rw o.4 (type-of _ (literal-good b P o.0 o.1 o.2).typ)
+      (all_append (types_of (entries_each b (λ k. k < user_types + size b types) _ _ (P.function o.0 o.1).input_types.below)) (type-of _ (P.function o.0 o.1).typ))
+  sorts-of (a_literal l) o = rw o.4 (type-of _ (literal_good b P o.0 o.1 o.2).typ)
 
   pub with-sorts : (x : Symbol) → Of b x → All (Of b) (with_sorts x)
   unfolding with_sorts
   with-sorts x o = more o (sorts-of x o)
 
-  pub variables-of : {vv : List SConstant} → All (λ v. Of b (a_constant v)) vv → All (Of b) (sorts_of_variables vv)
+  pub variables_of : {vv : List SConstant} → All (λ v. Of b (a_constant v)) vv → All (Of b) (sorts_of_variables vv)
   unfolding sorts_of_variables sorts_of
-  variables-of end = end
-  variables-of (more {a = v} h hs) = all_append (sorts-of (a_constant v) h) (variables-of hs)
+  variables_of end = end
+  variables_of (more {a = v} h hs) = all_append (sorts-of (a_constant v) h) (variables_of hs)
 
   -- ---- an expression's symbols and operators
   operator-symbols : (op : ROperator) → OperatorOf b op → All (Of b) (operator_symbols op)
@@ -80,19 +80,19 @@ module _ (b : Book) (P : Promise b) where
         at : (c : Bool) → All (Of b) (if c then [] else with_sorts (a_constant v))
         at true = end
         at false = with-sorts (a_constant v) h
-    symbols-of (FuncAppl op args) x h = all_append (operator-symbols op h.0) (all-symbols-of args x h.1)
+    symbols-of (FuncAppl op args) x h = all_append (operator-symbols op h.0) (all_symbols_of args x h.1)
     symbols-of (IfThenElse g t e) x h = all_append (symbols-of g x h.0) (all_append (symbols-of t x h.1) (symbols-of e x h.2))
     symbols-of (LetExpr v r c) x h = all_append (symbols-of r _ h.1) (symbols-of c _ h.2)
     symbols-of (QuantifierExpr u vv ps c) x h =
-        all_append (variables-of h.0) (all_append (pattern-symbols-of ps _ h.1) (symbols-of c _ h.2))
+        all_append (variables_of h.0) (all_append (pattern_symbols_of ps _ h.1) (symbols-of c _ h.2))
 
-    all-symbols-of : (es : RExprs) (x : List ℕ) → EveryRs (asked b) es → All (Of b) (symbols_of_all es x)
-    all-symbols-of []ʳ x h = end
-    all-symbols-of (e ∷ʳ es) x h = all_append (symbols-of e x h.0) (all-symbols-of es x h.1)
+    all_symbols_of : (es : RExprs) (x : List ℕ) → EveryRs (asked b) es → All (Of b) (symbols_of_all es x)
+    all_symbols_of []ʳ x h = end
+    all_symbols_of (e ∷ʳ es) x h = all_append (symbols-of e x h.0) (all_symbols_of es x h.1)
 
-    pattern-symbols-of : (ps : RPatterns) (x : List ℕ) → EveryPs (asked b) ps → All (Of b) (symbols_of_patterns ps x)
-    pattern-symbols-of []ᵖ x h = end
-    pattern-symbols-of (q ∷ᵖ ps) x h = all_append (all-symbols-of q x h.0) (pattern-symbols-of ps x h.1)
+    pattern_symbols_of : (ps : RPatterns) (x : List ℕ) → EveryPs (asked b) ps → All (Of b) (symbols_of_patterns ps x)
+    pattern_symbols_of []ᵖ x h = end
+    pattern_symbols_of (q ∷ᵖ ps) x h = all_append (all_symbols_of q x h.0) (pattern_symbols_of ps x h.1)
 
   operator-names : (op : ROperator) → OperatorOf b op → All (OfOperator b) (operator_names op)
   unfolding operator_names
@@ -107,24 +107,24 @@ module _ (b : Book) (P : Promise b) where
     operators-of (Integer n) h = end
     operators-of (CustomLiteral t l) h = end
     operators-of (Id v) h = end
-    operators-of (FuncAppl op args) h = all_append (operator-names op h.0) (all-operators-of args h.1)
+    operators-of (FuncAppl op args) h = all_append (operator-names op h.0) (all_operators_of args h.1)
     operators-of (IfThenElse g t e) h = all_append (operators-of g h.0) (all_append (operators-of t h.1) (operators-of e h.2))
     operators-of (LetExpr v r c) h = all_append (operators-of r h.1) (operators-of c h.2)
-    operators-of (QuantifierExpr u vv ps c) h = all_append (pattern-operators-of ps h.1) (operators-of c h.2)
+    operators-of (QuantifierExpr u vv ps c) h = all_append (pattern_operators_of ps h.1) (operators-of c h.2)
 
-    all-operators-of : (es : RExprs) → EveryRs (asked b) es → All (OfOperator b) (operators_of_all es)
-    all-operators-of []ʳ h = end
-    all-operators-of (e ∷ʳ es) h = all_append (operators-of e h.0) (all-operators-of es h.1)
+    all_operators_of : (es : RExprs) → EveryRs (asked b) es → All (OfOperator b) (operators_of_all es)
+    all_operators_of []ʳ h = end
+    all_operators_of (e ∷ʳ es) h = all_append (operators-of e h.0) (all_operators_of es h.1)
 
-    pattern-operators-of : (ps : RPatterns) → EveryPs (asked b) ps → All (OfOperator b) (operators_of_patterns ps)
-    pattern-operators-of []ᵖ h = end
-    pattern-operators-of (q ∷ᵖ ps) h = all_append (all-operators-of q h.0) (pattern-operators-of ps h.1)
+    pattern_operators_of : (ps : RPatterns) → EveryPs (asked b) ps → All (OfOperator b) (operators_of_patterns ps)
+    pattern_operators_of []ᵖ h = end
+    pattern_operators_of (q ∷ᵖ ps) h = all_append (all_operators_of q h.0) (pattern_operators_of ps h.1)
 
   -- ---- every term of the book
   constant-of : (k : ℕ) → k < size b constants → Of b (a_constant (constant_of b k))
   constant-of k l = (k, l, refl)
 
-  function-of : (k : ℕ) → k < size b functions → Of b (a_function (function_of b k))
+  function-of : (k : ℕ) → k < size b functions → Of b (a_function (function-of b k))
   function-of k l = (k, l, refl)
 
   operator-of : (t : ℕ) → t < size b terms → kind_of (field b terms t 0) ≡ built_in → OfOperator b (name_text b (field b terms t 1))
@@ -134,10 +134,10 @@ module _ (b : Book) (P : Promise b) where
   literal-of t l e z = (t, l, e, z, refl)
 
   pub term_of : (t : ℕ) → t < size b terms → EveryR (asked b) (term b t)
-  term_of = every-term b P (asked b) constant-of operator-of function-of literal-of
+  term_of = every_term b P (asked b) constant-of operator-of function-of literal-of
 
   pub node_of : (n : ℕ) → EveryR (asked b) (node_at (program b) n).expr
-  node_of = every-node b P (asked b) constant-of operator-of function-of literal-of
+  node_of = every_node b P (asked b) constant-of operator-of function-of literal-of
 
   pub axiom-of : (k : ℕ) → EveryTerm (asked b) (axiom_at (program b) k).term
-  axiom-of = every-axiom b P (asked b) constant-of operator-of function-of literal-of
+  axiom-of = every_axiom b P (asked b) constant-of operator-of function-of literal-of

@@ -19,10 +19,10 @@ use Rattle.declared_once.specs.Symbols.{Among}
 use Rattle.declared_once.specs.ToldApart.{prints_apart}
 use Rattle.declared_once.specs.DeclaredOnce.{path_commands, commands_for, live_commands, together, Place, DeclaredOnce, NoStrangerAt, NoStranger}
 use Rattle.declared_once.proofs.Lists.{all_among}
-use Rattle.declared_once.proofs.Weaker.{told-prints}
-use Rattle.declared_once.proofs.Present.{placed_at, must-stacked}
+use Rattle.declared_once.proofs.Weaker.{told_prints}
+use Rattle.declared_once.proofs.Present.{placed_at, must_stacked}
 use Rattle.declared_once.proofs.Numbered.{ordered}
-use Rattle.declared_once.proofs.Reached.{present-once}
+use Rattle.declared_once.proofs.Reached.{present_once}
 
 -- where nothing is live there is no place
 no_place : Place ([] ∷ []) → ⊥
@@ -35,36 +35,36 @@ no_place q =
     empty : length (together ([] ∷ [])) ≡ 0
     empty = unfold together in refl
 
-no-live : (d : Command) → Among d (together ([] ∷ [])) → ⊥
-no-live d i = all_among none i
+no_live : (d : Command) → Among d (together ([] ∷ [])) → ⊥
+no_live d i = all_among none i
   where
     none : All (λ c. ⊥) (together ([] ∷ []))
     none = unfold together in end
 
-nothing-once : DeclaredOnce ([] ∷ [])
-nothing-once =
+nothing_once : DeclaredOnce ([] ∷ [])
+nothing_once =
     record {
       one = λ q e h x i. absurd (no_place q);
       earlier = λ q e h x i. absurd (no_place q);
       own = λ q e h x i d j g. absurd (no_place q);
       operator = λ q e h n i d j. absurd (no_place q);
-      types = λ n i d j. absurd (no-live d j);
+      types = λ n i d j. absurd (no_live d j);
     }
 
 -- of a book that fails the test every call is refused: nothing is live
-bad-once : (b : Book) → DeclaredOnce (live_commands (start b).book (start b).due)
+bad_once : (b : Book) → DeclaredOnce (live_commands (start b).book (start b).due)
 unfolding start live_commands commands_for path_commands path path_up present
-bad-once b = nothing-once
+bad_once b = nothing_once
 
-sound-once : {t : Trace} {u : SolverState} → Sound t u → prints_apart t.book ≡ true → DeclaredOnce (live_commands t.book t.due)
-sound-once (passed {t = t} k) T =
-    present-once t.book (promise t.book k.holds.tested) T t.due k.holds.fits.asks
-sound-once (failed b h) T = bad-once b
+sound_once : {t : Trace} {u : SolverState} → Sound t u → prints_apart t.book ≡ true → DeclaredOnce (live_commands t.book t.due)
+sound_once (passed {t = t} k) T =
+    present_once t.book (promise t.book k.holds.tested) T t.due k.holds.fits.asks
+sound_once (failed b h) T = bad_once b
 
-pub no-stranger : (b : Book) (es : List Event) → NoStranger b es
-no-stranger b es = record { told = λ T. at (told-prints (run b es).book T); apart = at }
+pub no_stranger : (b : Book) (es : List Event) → NoStranger b es
+no_stranger b es = record { told = λ T. at (told_prints (run b es).book T); apart = at }
   where
     at : prints_apart (run b es).book ≡ true → NoStrangerAt (run b es)
     at T =
-        let lives = (stack-rule b es).reads ∙ ap live (must-stacked (run b es).book (run b es).due) in
-        record { lives = lives; order = ordered (run b es).text _ lives; once = sound-once (sound b es) T }
+        let lives = (stack-rule b es).reads ∙ ap live (must_stacked (run b es).book (run b es).due) in
+        record { lives = lives; order = ordered (run b es).text _ lives; once = sound_once (sound b es) T }

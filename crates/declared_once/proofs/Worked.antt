@@ -35,26 +35,26 @@ unfolding opened same is_tag name_to_string type_to_string literal_name with_con
 computed = tt
 
 -- (let ((x x)) x): x is bound in the body, and not on the right side
-let-symbols : symbols_of (LetExpr x (Id x) (Id x)) [] ≡ a_constant x ∷ []
+let_symbols : symbols_of (LetExpr x (Id x) (Id x)) [] ≡ a_constant x ∷ []
 unfolding computed
-let-symbols = refl
+let_symbols = refl
 
 -- (forall ((v T)) (! v :pattern (v x))): v is bound in both, its type is wanted
-quantifier-symbols : symbols_of (QuantifierExpr true (v ∷ []) ((Id v ∷ʳ Id x ∷ʳ []ʳ) ∷ᵖ []ᵖ) (Id v)) [] ≡ a_sort T ∷ a_constant x ∷ []
+quantifier_symbols : symbols_of (QuantifierExpr true (v ∷ []) ((Id v ∷ʳ Id x ∷ʳ []ʳ) ∷ᵖ []ᵖ) (Id v)) [] ≡ a_sort T ∷ a_constant x ∷ []
 unfolding computed
-quantifier-symbols = refl
+quantifier_symbols = refl
 
 -- patterns of a quantifier without variables
-pattern-symbols : symbols_of (QuantifierExpr false [] ((Id x ∷ʳ []ʳ) ∷ᵖ []ᵖ) (CustomLiteral 0 tag)) [] ≡ a_constant x ∷ []
+pattern_symbols : symbols_of (QuantifierExpr false [] ((Id x ∷ʳ []ʳ) ∷ᵖ []ᵖ) (CustomLiteral 0 tag)) [] ≡ a_constant x ∷ []
 unfolding computed
-pattern-symbols = refl
+pattern_symbols = refl
 
 -- (= (f a) v): the user types come with each
-application-symbols :
+application_symbols :
     symbols_of (FuncAppl (BuiltInOperator (ascii "=")) (FuncAppl (UserDefinedFunction f) (CustomLiteral 0 a ∷ʳ []ʳ) ∷ʳ Id v ∷ʳ []ʳ)) []
     ≡ a_function f ∷ a_sort T ∷ a_literal a ∷ a_sort T ∷ a_constant v ∷ a_sort T ∷ []
 unfolding computed
-application-symbols = refl
+application_symbols = refl
 
 -- ---- names
 named : Text → SConstant

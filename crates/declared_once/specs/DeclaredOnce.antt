@@ -1,5 +1,5 @@
 -- EVERY SYMBOL DECLARED ONCE: what is live at any moment between two calls, command by command, and what holds of it.
--- Proved in proofs/Theorem.antt: no-stranger, for every list of bytes as the book and every list of events.
+-- Proved in proofs/Theorem.antt: no_stranger, for every list of bytes as the book and every list of events.
 use Rattle.std.specs.Prelude.{ℕ, ◌≡◌, true, false, List, [], ◌∷◌, ◌++◌}
 use Rattle.std.proofs.Math.Option.{some}
 use Rattle.basics.specs.Text.{Text}

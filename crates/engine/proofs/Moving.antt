@@ -7,11 +7,11 @@ use mathlib.Core.Bool.{false}
 use mathlib.Core.List.{List, [], ◌∷◌, ◌++◌, reverse}
 use lib.ListN.{length, replicate, take, drop}
 use Rattle.basics.specs.Write.{MOST, WroteAt}
-use Rattle.basics.proofs.Places.{at_none, at-as}
+use Rattle.basics.proofs.Places.{at_none, at_as}
 use Rattle.book.specs.Book.{Book, contexts, size}
 use Rattle.book.specs.Program.{path, depth, shared}
 use Rattle.book.specs.Decode.{program}
-use Rattle.book.proofs.Paths.{chain, shared-most, shared-suffix}
+use Rattle.book.proofs.Paths.{chain, shared_most, shared_suffix}
 use Rattle.book_test.specs.Promise.{Promise}
 use Rattle.contexts.specs.Path.{pops_of}
 use Rattle.smt_engines.specs.Command.{Command, Pop, script}
@@ -19,10 +19,10 @@ use Rattle.rsolver.specs.LevelState.{forget}
 use Rattle.levels.specs.declared.Progress.{Progress}
 use Rattle.solvers.specs.Rule.{standing, entering, move_commands}
 use Rattle.solvers.proofs.Good.{good}
-use Rattle.solvers.proofs.Cleared.{cleared-standing}
+use Rattle.solvers.proofs.Cleared.{cleared_standing}
 use Rattle.solvers.proofs.Standing.{clear_above}
 use Rattle.engine.specs.Engine.{state_at, Downward, Descended, Reached}
-use Rattle.engine.proofs.Entering.{said-then}
+use Rattle.engine.proofs.Entering.{said_then}
 
 -- ---- pops
 replicate_more : {A : Type 0} (i : ℕ) (a : A) → replicate (i + 1) a ≡ replicate i a ++ (a ∷ [])
@@ -36,15 +36,15 @@ pub record Popping (count i : ℕ) (o o1 : List ℕ) (at : ℕ) : Type 0 where
   pub few : i ≤ count
   pub text : WroteAt (script (replicate i Pop)) 0 o o1 at
 
-pub popping-start : (count : ℕ) (o : List ℕ) → Popping count 0 o o 0
+pub popping_start : (count : ℕ) (o : List ℕ) → Popping count 0 o o 0
 unfolding script
-popping-start count o = record { few = omega arith; text = at_none 0 o (omega arith) }
+popping_start count o = record { few = omega arith; text = at_none 0 o (omega arith) }
 
-pub popping-more : {count i : ℕ} {o o1 o2 : List ℕ} {at r : ℕ} → length o < MOST + 1 → i < count → Popping count i o o1 at → WroteAt (script (Pop ∷ [])) at o1 o2 r → Popping count (i + 1) o o2 r
-popping-more {i = i} short h p w = record { few = omega arith; text = at-as (ap script (sym (replicate_more i Pop))) (said-then _ (Pop ∷ []) short p.text w) }
+pub popping_more : {count i : ℕ} {o o1 o2 : List ℕ} {at r : ℕ} → length o < MOST + 1 → i < count → Popping count i o o1 at → WroteAt (script (Pop ∷ [])) at o1 o2 r → Popping count (i + 1) o o2 r
+popping_more {i = i} short h p w = record { few = omega arith; text = at_as (ap script (sym (replicate_more i Pop))) (said_then _ (Pop ∷ []) short p.text w) }
 
-pub popping-done : {count i : ℕ} {o o1 : List ℕ} {at : ℕ} → count ≤ i → Popping count i o o1 at → WroteAt (script (replicate count Pop)) 0 o o1 at
-popping-done {count} {i} {o} {o1} {at} h p =
+pub popping_done : {count i : ℕ} {o o1 : List ℕ} {at : ℕ} → count ≤ i → Popping count i o o1 at → WroteAt (script (replicate count Pop)) 0 o o1 at
+popping_done {count} {i} {o} {o1} {at} h p =
     let e : i ≡ count = omega (arith, p.few) in
     subst (λ (n : ℕ). WroteAt (script (replicate n Pop)) 0 o o1 at) e p.text
 
@@ -57,29 +57,29 @@ module _ {b : Book} (P : Promise b) (old new : ℕ) {count : ℕ} (pops : count 
   y = path (program b) new
 
   -- what is known of the numbers
-  pub few-pops : count ≤ depth (program b) old
+  pub few_pops : count ≤ depth (program b) old
   unfolding pops_of
-  few-pops = omega (arith, pops)
+  few_pops = omega (arith, pops)
 
   kept : depth (program b) old - count ≡ shared x y
   unfolding pops_of depth x y
-  kept = omega (arith, pops, shared-most (path (program b) old) (path (program b) new))
+  kept = omega (arith, pops, shared_most (path (program b) old) (path (program b) new))
 
   suffix : (shared x y ≤ length y) × (drop (length x - shared x y) x ≡ drop (length y - shared x y) y)
   unfolding x y
-  suffix = shared-suffix (program b) (path (program b) old) (path (program b) new) (chain (program b) (good b P).parents old) (chain (program b) (good b P).parents new)
+  suffix = shared_suffix (program b) (path (program b) old) (path (program b) new) (chain (program b) (good b P).parents old) (chain (program b) (good b P).parents new)
 
-  pub few-kept : depth (program b) old - count ≤ depth (program b) new
+  pub few_kept : depth (program b) old - count ≤ depth (program b) new
   unfolding depth y
-  few-kept = omega (arith, kept, suffix.0)
+  few_kept = omega (arith, kept, suffix.0)
 
-  count-is : count ≡ length x - shared x y
+  count_is : count ≡ length x - shared x y
   unfolding pops_of depth x y
-  count-is = pops
+  count_is = pops
 
-  below-is : depth (program b) new - (depth (program b) old - count) ≡ length y - shared x y
+  below_is : depth (program b) new - (depth (program b) old - count) ≡ length y - shared x y
   unfolding depth y
-  below-is = ap (λ (k : ℕ). length (path (program b) new) - k) kept
+  below_is = ap (λ (k : ℕ). length (path (program b) new) - k) kept
 
   pub downward : {ls ls1 : List ℕ} {below : ℕ} (so : Progress) → new ≤ size b contexts → ls ≡ (state_at b old).levels → (state_at b old).missing ≡ false → ls1 ≡ forget (depth (program b) old - count + 1) ls → below ≡ depth (program b) new - (depth (program b) old - count)
       → so.missing ≡ false → Downward b new below ls1 so
@@ -88,9 +88,9 @@ module _ {b : Book} (P : Promise b) (old new : ℕ) {count : ℕ} (pops : count 
       let G = good b P in
       let k : length x - count ≤ length x = omega arith in
       let up : drop count x ≡ drop below y =
-      ap (λ (i : ℕ). drop i x) count-is ∙ suffix.1 ∙ ap (λ (i : ℕ). drop i y) (sym (f ∙ below-is)) in
+      ap (λ (i : ℕ). drop i x) count_is ∙ suffix.1 ∙ ap (λ (i : ℕ). drop i y) (sym (f ∙ below_is)) in
       let levels : ls1 ≡ (standing (program b) (drop count x)).levels =
-      e ∙ ap {B = List ℕ} (λ (i : ℕ). forget i ls) (add-one (length x - count)) ∙ ap (forget (suc (length x - count))) fl ∙ cleared-standing (program b) G count x few-pops in
+      e ∙ ap {B = List ℕ} (λ (i : ℕ). forget i ls) (add-one (length x - count)) ∙ ap (forget (suc (length x - count))) fl ∙ cleared_standing (program b) G count x few_pops in
       record {
         promise = P;
         inside = to;
@@ -107,5 +107,5 @@ module _ {b : Book} (P : Promise b) (old new : ℕ) {count : ℕ} (pops : count 
   reached {ls'} {below} {so} {r} {o} {o1} {o2} short f w d =
       record {
         state = d.state;
-        text = at-as (ap script (λ i. replicate (count-is i) Pop ++ entering (program b) (reverse (take ((f ∙ below-is) i) y)))) (said-then (replicate count Pop) _ short w d.text);
+        text = at_as (ap script (λ i. replicate (count_is i) Pop ++ entering (program b) (reverse (take ((f ∙ below_is) i) y)))) (said_then (replicate count Pop) _ short w d.text);
       }

@@ -10,52 +10,52 @@ use lib.ListN.{length, get_or, set, replicate}
 use borrow.Author.Tests.{ne_eqb, eqb-true, eqb-false}
 use Rattle.basics.specs.Lists.{member}
 use Rattle.basics.specs.Bits.{has_bit, with_bit, has_number, with_number}
-use Rattle.basics.proofs.Bits.{length-with, has-joined, has_other, has-none}
+use Rattle.basics.proofs.Bits.{length_with, has_joined, has_other, has_none}
 use Rattle.book.specs.Book.{Book, constants, lists, field, entries}
 use Rattle.book.specs.Decode.{constant_of}
 use Rattle.rsolver.specs.REngine.{with_constants}
 use Rattle.excluded.specs.Excluded.{set_size, is_excluded, Excludes, Joined, with_range, Ranged}
 
 -- the set's bit for v
-pub bit-of : (set : List ℕ) (v : ℕ) → has_bit (get_or set (v / 8) 0) (v % 8) ≡ is_excluded set v
+pub bit_of : (set : List ℕ) (v : ℕ) → has_bit (get_or set (v / 8) 0) (v % 8) ≡ is_excluded set v
 unfolding is_excluded has_number
-bit-of set v = refl
+bit_of set v = refl
 
-pub joined-old : {s : List ℕ} {v : ℕ} → length s ≡ set_size → is_excluded s v ≡ true → Joined s s v
-joined-old {s} {v} l e = record { long = l; joins = λ w h. at w (eqb w v) refl }
+pub joined_old : {s : List ℕ} {v : ℕ} → length s ≡ set_size → is_excluded s v ≡ true → Joined s s v
+joined_old {s} {v} l e = record { long = l; joins = λ w h. at w (eqb w v) refl }
   where
     at : (w : ℕ) (t : Bool) → eqb w v ≡ t → is_excluded s w ≡ (t || is_excluded s w)
     at w true q = ap (is_excluded s) (eqb-true w v q) ∙ e
     at w false q = refl
 
-pub joined-new : (s : List ℕ) (v : ℕ) {y : ℕ} → y ≡ with_bit (get_or s (v / 8) 0) (v % 8) → length s ≡ set_size → v < constants.most → Joined s (set s (v / 8) y) v
+pub joined_new : (s : List ℕ) (v : ℕ) {y : ℕ} → y ≡ with_bit (get_or s (v / 8) 0) (v % 8) → length s ≡ set_size → v < constants.most → Joined s (set s (v / 8) y) v
 unfolding is_excluded with_number
-joined-new s v is long small = rw is (record { long = length-with s v ∙ long; joins = λ w h. at w (eqb w v) refl })
+joined_new s v is long small = rw is (record { long = length_with s v ∙ long; joins = λ w h. at w (eqb w v) refl })
   where
     at : (w : ℕ) (t : Bool) → eqb w v ≡ t → has_number (with_number s v) w ≡ (t || has_number s w)
-    at w true q = ap (has_number (with_number s v)) (eqb-true w v q) ∙ has-joined s v (omega (arith, long))
+    at w true q = ap (has_number (with_number s v)) (eqb-true w v q) ∙ has_joined s v (omega (arith, long))
     at w false q = has_other s v w (eqb-false w v q)
 
-pub excludes-none : Excludes (replicate set_size 0) []
+pub excludes_none : Excludes (replicate set_size 0) []
 unfolding is_excluded member
-excludes-none = record { long = refl; same = λ v h. has-none set_size v }
+excludes_none = record { long = refl; same = λ v h. has_none set_size v }
 
 -- ---- and the lists that they hold
-pub excludes-with : {s s' x : List ℕ} {v : ℕ} → Excludes s x → Joined s s' v → Excludes s' (v ∷ x)
+pub excludes_with : {s s' x : List ℕ} {v : ℕ} → Excludes s x → Joined s s' v → Excludes s' (v ∷ x)
 unfolding member
-excludes-with {s} {s'} {x} {v} e j = record { long = j.long; same = λ w h. j.joins w h ∙ ap (λ (t : Bool). eqb w v || t) (e.same w h) }
+excludes_with {s} {s'} {x} {v} e j = record { long = j.long; same = λ w h. j.joins w h ∙ ap (λ (t : Bool). eqb w v || t) (e.same w h) }
 
-with-more : (b : Book) (start i : ℕ) (x : List ℕ) → with_range b start (suc i) x ≡ field b lists (start + i) 0 ∷ with_range b start i x
+with_more : (b : Book) (start i : ℕ) (x : List ℕ) → with_range b start (suc i) x ≡ field b lists (start + i) 0 ∷ with_range b start i x
 unfolding with_range with_constants entries constant_of
-with-more b start zero x = let e : start + 0 ≡ start = omega arith in rw e
-with-more b start (suc i) x = let e : start + suc i ≡ suc start + i = omega arith in rw e (with-more b (suc start) i (field b lists start 0 ∷ x))
+with_more b start zero x = let e : start + 0 ≡ start = omega arith in rw e
+with_more b start (suc i) x = let e : start + suc i ≡ suc start + i = omega arith in rw e (with_more b (suc start) i (field b lists start 0 ∷ x))
 
-pub ranged-none : (b : Book) (start : ℕ) (s : List ℕ) → Ranged b start 0 s s
+pub ranged_none : (b : Book) (start : ℕ) (s : List ℕ) → Ranged b start 0 s s
 unfolding with_range with_constants entries
-ranged-none b start s = record { ranges = λ x e. e }
+ranged_none b start s = record { ranges = λ x e. e }
 
-pub ranged-more : (b : Book) (start i : ℕ) {v : ℕ} {s s1 s2 : List ℕ} → Ranged b start i s s1 → v ≡ field b lists (start + i) 0 → Joined s1 s2 v → Ranged b start (i + 1) s s2
-ranged-more b start i r e j = record { ranges = λ x k. rw (add-one i, with-more b start i x, ← e) (excludes-with (r.ranges x k) j) }
+pub ranged_more : (b : Book) (start i : ℕ) {v : ℕ} {s s1 s2 : List ℕ} → Ranged b start i s s1 → v ≡ field b lists (start + i) 0 → Joined s1 s2 v → Ranged b start (i + 1) s s2
+ranged_more b start i r e j = record { ranges = λ x k. rw (add-one i, with_more b start i x, ← e) (excludes_with (r.ranges x k) j) }
 
 -- ---- a list that a set holds
 abbrev pub join_if : Bool → ℕ → List ℕ → List ℕ
@@ -86,5 +86,5 @@ listed_below s (suc n) v h = at (is_excluded s n) refl (eqb v n) refl (λ l. lis
     at false q true r up = ap (is_excluded s) (eqb-true v n r) ∙ q ∙ sym (listed_above s n v (omega (arith, eqb-true v n r)))
     at false q false r up = up (omega (arith, eqb-false v n r))
 
-pub excludes-listed : (s : List ℕ) → length s ≡ set_size → Excludes s (listed s constants.most)
-excludes-listed s l = record { long = l; same = λ v h. listed_below s constants.most v h }
+pub excludes_listed : (s : List ℕ) → length s ≡ set_size → Excludes s (listed s constants.most)
+excludes_listed s l = record { long = l; same = λ v h. listed_below s constants.most v h }

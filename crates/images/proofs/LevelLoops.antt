@@ -7,7 +7,7 @@ use lib.ListN.{length, get_or, set, take, drop, length-set, length-drop}
 use lib.Seq.{get_or-drop, take_all, take-suc, take-suc-set}
 use Rattle.rsolver.specs.LevelState.{level_count}
 use Rattle.solvers.specs.Image.{head_size, image_size, level_bytes, levels_in}
-use Rattle.solvers.proofs.LevelBytes.{length-levels-in}
+use Rattle.solvers.proofs.LevelBytes.{length_levels_in}
 
 -- ---- read
 level_in : (i : ℕ) (xs : List ℕ) → 2 * i + 1 < length xs → get_or (levels_in xs) i 0 ≡ get_or xs (2 * i) 0 + 256 * get_or xs (2 * i + 1) 0
@@ -20,34 +20,34 @@ level_in (suc i) (a ∷ b ∷ xs) h =
     let f : 2 * suc i ≡ suc (suc (2 * i)) = omega arith in
     rw (e, f) (level_in i xs (omega arith))
 
-pub levels-long : (image : List ℕ) → length image ≡ image_size → length (levels_in (drop head_size image)) ≡ level_count
-levels-long image l = length-levels-in level_count (drop head_size image) (simp length-drop (omega arith))
+pub levels_long : (image : List ℕ) → length image ≡ image_size → length (levels_in (drop head_size image)) ≡ level_count
+levels_long image l = length_levels_in level_count (drop head_size image) (simp length-drop (omega arith))
 
-pub level-read : (image : List ℕ) (i : ℕ) {r : ℕ} → length image ≡ image_size → i < level_count
+pub level_read : (image : List ℕ) (i : ℕ) {r : ℕ} → length image ≡ image_size → i < level_count
     → r ≡ get_or image (head_size + 2 * i) 0 + 256 * get_or image (head_size + 2 * i + 1) 0 → r ≡ get_or (levels_in (drop head_size image)) i 0
-level-read image i l h e =
+level_read image i l h e =
     let next : head_size + 2 * i + 1 ≡ head_size + (2 * i + 1) = omega arith in
     e ∙ rw next (sym (level_in i (drop head_size image) (simp length-drop (omega arith)) ∙ simp get_or-drop))
 
 -- ---- written
-bytes-append : (xs ys : List ℕ) → level_bytes (xs ++ ys) ≡ level_bytes xs ++ level_bytes ys
+bytes_append : (xs ys : List ℕ) → level_bytes (xs ++ ys) ≡ level_bytes xs ++ level_bytes ys
 unfolding level_bytes
-bytes-append [] ys = refl
-bytes-append (x ∷ xs) ys = rw (bytes-append xs ys)
+bytes_append [] ys = refl
+bytes_append (x ∷ xs) ys = rw (bytes_append xs ys)
 
 -- the first i stand behind what stood in front
 pub record Put (before levels image : List ℕ) (i : ℕ) : Type 0 where
   pub long : length image ≡ image_size
   pub there : take (head_size + 2 * i) image ≡ take head_size before ++ level_bytes (take i levels)
 
-pub put-none : (before levels : List ℕ) → length before ≡ image_size → Put before levels before 0
+pub put_none : (before levels : List ℕ) → length before ≡ image_size → Put before levels before 0
 unfolding level_bytes
-put-none before levels l = record { long = l; there = sym (append-nil (take head_size before)) }
+put_none before levels l = record { long = l; there = sym (append-nil (take head_size before)) }
 
-pub put-more : {before levels image : List ℕ} {i at low high : ℕ} → Put before levels image i → i < length levels → i < level_count → at ≡ head_size + 2 * i
+pub put_more : {before levels image : List ℕ} {i at low high : ℕ} → Put before levels image i → i < length levels → i < level_count → at ≡ head_size + 2 * i
     → low ≡ get_or levels i 0 % 256 → high ≡ get_or levels i 0 / 256 % 256 → Put before levels (set (set image at low) (at + 1) high) (i + 1)
 unfolding level_bytes
-put-more {before} {levels} {image} {i} {at} {low} {high} p h k e el eh =
+put_more {before} {levels} {image} {i} {at} {low} {high} p h k e el eh =
     let one : at + 1 ≡ suc at = omega arith in
     let two : head_size + 2 * (i + 1) ≡ suc (suc at) = omega arith in
     let more : i + 1 ≡ suc i = omega arith in
@@ -56,7 +56,7 @@ put-more {before} {levels} {image} {i} {at} {low} {high} p h k e el eh =
     let second : take (suc (suc at)) (set image1 (suc at) high) ≡ take (suc at) image1 ++ (high ∷ []) = take-suc-set image1 (suc at) high (simp length-set (omega (arith, p.long))) in
     let so : take at image ≡ take head_size before ++ level_bytes (take i levels) = rw e p.there in
     let bytes : level_bytes (take (suc i) levels) ≡ level_bytes (take i levels) ++ (low ∷ high ∷ []) =
-    ap level_bytes (take-suc levels i 0 h) ∙ bytes-append (take i levels) (get_or levels i 0 ∷ []) ∙ rw (← el, ← eh) in
+    ap level_bytes (take-suc levels i 0 h) ∙ bytes_append (take i levels) (get_or levels i 0 ∷ []) ∙ rw (← el, ← eh) in
     record {
       long = simp length-set p.long;
       there = rw (one, two, more, second, first, so, bytes) (simp append_assoc);

@@ -15,18 +15,18 @@ use Rattle.solvers.specs.declared.Owed.TheVariants.{Nothing}
 use Rattle.solvers.specs.declared.Session.{Session}
 use Rattle.solvers.specs.Session.{session}
 use Rattle.solvers.specs.Image.{image_kind, head_size, image_size, owed_values, owed_of, levels_in, no_session, is_kind, is_image, read_image}
-use Rattle.solvers.proofs.Head.{kind-told}
+use Rattle.solvers.proofs.Head.{kind_told}
 
 -- every other number
-pub owed-other : (n : ℕ) → ¬ (n ≡ 1) → ¬ (n ≡ 2) → Nothing ≡ owed_of n
+pub owed_other : (n : ℕ) → ¬ (n ≡ 1) → ¬ (n ≡ 2) → Nothing ≡ owed_of n
 unfolding owed_of
-owed-other zero h k = refl
-owed-other (suc zero) h k = absurd (h refl)
-owed-other (suc (suc zero)) h k = absurd (k refl)
-owed-other (suc (suc (suc n))) h k = refl
+owed_other zero h k = refl
+owed_other (suc zero) h k = absurd (h refl)
+owed_other (suc (suc zero)) h k = absurd (k refl)
+owed_other (suc (suc (suc n))) h k = refl
 
-owed-known : (n : ℕ) → leb n 2 ≡ ltb n (length owed_values)
-owed-known n = at (dec_le n 2)
+owed_known : (n : ℕ) → leb n 2 ≡ ltb n (length owed_values)
+owed_known n = at (dec_le n 2)
   where
     at : Dec (n ≤ 2) → leb n 2 ≡ ltb n (length owed_values)
     at (yes h) = le-leb n 2 h ∙ sym (lt-ltb n (length owed_values) (omega arith))
@@ -38,17 +38,17 @@ module _ (kind size : ℕ) (image : List ℕ) where
   unfolding is_kind
   other_length h = rw (ne_eqb (length image) size h)
 
-  pub other-kind : {k : ℕ} → length image ≡ size → k ≡ word image 0 → ¬ (k ≡ kind) → false ≡ is_kind kind size image
+  pub other_kind : {k : ℕ} → length image ≡ size → k ≡ word image 0 → ¬ (k ≡ kind) → false ≡ is_kind kind size image
   unfolding is_kind
-  other-kind l e h = rw (eq-eqb (length image) size l, ← e, ne_eqb _ kind h)
+  other_kind l e h = rw (eq-eqb (length image) size l, ← e, ne_eqb _ kind h)
 
-  pub owed-decides : {k owed : ℕ} → length image ≡ size → k ≡ word image 0 → k ≡ kind → owed ≡ word image 12 → leb owed 2 ≡ is_kind kind size image
+  pub owed_decides : {k owed : ℕ} → length image ≡ size → k ≡ word image 0 → k ≡ kind → owed ≡ word image 12 → leb owed 2 ≡ is_kind kind size image
   unfolding is_kind
-  owed-decides {owed = owed} l e h o = rw (eq-eqb (length image) size l, ← e, eq-eqb _ kind h, ← o) (owed-known owed)
+  owed_decides {owed = owed} l e h o = rw (eq-eqb (length image) size l, ← e, eq-eqb _ kind h, ← o) (owed_known owed)
 
-pub image-long : (image : List ℕ) → is_image image ≡ true → length image ≡ image_size
+pub image_long : (image : List ℕ) → is_image image ≡ true → length image ≡ image_size
 unfolding is_image
-image-long image h = (kind-told image_kind image_size image h).long
+image_long image h = (kind_told image_kind image_size image h).long
 
 pub no-session : {levels : List ℕ} → levels ≡ no_levels → session 0xFFFFFFFF 0 Nothing levels ≡ no_session
 unfolding no_session

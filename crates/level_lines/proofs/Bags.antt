@@ -11,8 +11,8 @@ use borrow.Author.Tests.{eqb-true, eq-eqb}
 use Rattle.basics.specs.Text.{Text, same}
 use Rattle.basics.specs.Lists.{all}
 use Rattle.basics.proofs.Bool.{and_both}
-use Rattle.basics.proofs.All.{All, more, all-weaken, all_true}
-use Rattle.basics.proofs.Texts.{same_refl, same-eq}
+use Rattle.basics.proofs.All.{All, more, all_weaken, all_true}
+use Rattle.basics.proofs.Texts.{same_refl, same_eq}
 use Rattle.level_lines.specs.AsOften.{times_in, even_in, as_often}
 use Rattle.level_lines.specs.Bytes.{total}
 
@@ -35,7 +35,7 @@ removed x (y ∷ ys) h = at (same x y) refl (λ k. removed x ys k)
   where
     at : (b : Bool) → same x y ≡ b → (0 < times_in x ys → Removed x ys) → Removed x (y ∷ ys)
     at true e rec =
-        let z : x ≡ y = same-eq x y e in
+        let z : x ≡ y = same_eq x y e in
         record { size = rw e (ap (λ (t : Text). suc (length t) + total ys) (sym z)); many = rw e; counts = λ w. rw (e, z) }
     at false e rec =
         let k : 0 < 0 + times_in x ys = rw e at h in
@@ -58,31 +58,31 @@ bag (a ∷ l) m n (more h hs) =
     let k : 1 + times_in a l ≡ times_in a m = rw (same_refl a) at h in
     let here : 0 < times_in a m = omega (arith, k) in
     let r = removed a m here in
-    let i = bag l (without a m) (omega (arith, r.many)) (all-weaken (λ x k. omega (arith, k, r.counts x)) hs) in
+    let i = bag l (without a m) (omega (arith, r.many)) (all_weaken (λ x k. omega (arith, k, r.counts x)) hs) in
     record { counts = λ x. omega (arith, i.counts x, r.counts x); size = omega (arith, i.size, r.size) }
 
-pub same-bag : (l m : List Text) → as_often l m ≡ true → Bag l m
+pub same_bag : (l m : List Text) → as_often l m ≡ true → Bag l m
 unfolding as_often even_in
-same-bag l m h =
+same_bag l m h =
     let r = and_both (eqb (length l) (length m)) (all l (even_in l m)) h in
     bag l m (eqb-true (length l) (length m) r.0)
-    (all-weaken (λ x k. eqb-true (times_in x l) (times_in x m) k) (all_true l (even_in l m) r.1))
+    (all_weaken (λ x k. eqb-true (times_in x l) (times_in x m) k) (all_true l (even_in l m) r.1))
 
 -- ---- the other way
-even-length : (l m : List Text) → ((x : Text) → times_in x l ≡ times_in x m) → length l ≡ length m
+even_length : (l m : List Text) → ((x : Text) → times_in x l ≡ times_in x m) → length l ≡ length m
 unfolding times_in
-even-length [] [] h = refl
-even-length [] (y ∷ m) h = let k : 0 ≡ 1 + times_in y m = rw (same_refl y) at (h y) in absurd (omega arith)
-even-length (a ∷ l) m h =
+even_length [] [] h = refl
+even_length [] (y ∷ m) h = let k : 0 ≡ 1 + times_in y m = rw (same_refl y) at (h y) in absurd (omega arith)
+even_length (a ∷ l) m h =
     let k : 1 + times_in a l ≡ times_in a m = rw (same_refl a) at (h a) in
     let r = removed a m (omega (arith, k)) in
-    omega (arith, r.many, even-length l (without a m) (λ x. omega (arith, h x, r.counts x)))
+    omega (arith, r.many, even_length l (without a m) (λ x. omega (arith, h x, r.counts x)))
 
 all-even : (k l m : List Text) → ((x : Text) → times_in x l ≡ times_in x m) → all k (even_in l m) ≡ true
 unfolding all even_in
 all-even [] l m h = refl
 all-even (x ∷ k) l m h = rw (eq-eqb (times_in x l) (times_in x m) (h x), all-even k l m h)
 
-pub bag-same : (l m : List Text) → ((x : Text) → times_in x l ≡ times_in x m) → as_often l m ≡ true
+pub bag_same : (l m : List Text) → ((x : Text) → times_in x l ≡ times_in x m) → as_often l m ≡ true
 unfolding as_often
-bag-same l m h = rw (eq-eqb (length l) (length m) (even-length l m h), all-even l l m h)
+bag_same l m h = rw (eq-eqb (length l) (length m) (even_length l m h), all-even l l m h)

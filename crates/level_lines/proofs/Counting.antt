@@ -13,17 +13,17 @@ use Rattle.basics.specs.Lists.{all}
 use Rattle.command_lines.specs.Lines.{line_at}
 use Rattle.level_lines.specs.AsOften.{times_in, even_in, as_often}
 use Rattle.level_lines.specs.LevelLines.{lines_in}
-use Rattle.level_lines.proofs.Parts.{part-cons, part_end}
+use Rattle.level_lines.proofs.Parts.{part_cons, part_end}
 
-pub one-yes : {r x : Bool} → r ≡ x → r ≡ true → ◌≡◌ {A = ℕ} 1 (if x then 1 else 0)
-one-yes e t = rw (sym e ∙ t)
+pub one_yes : {r x : Bool} → r ≡ x → r ≡ true → ◌≡◌ {A = ℕ} 1 (if x then 1 else 0)
+one_yes e t = rw (sym e ∙ t)
 
-pub one-no : {r x : Bool} → r ≡ x → r ≡ false → ◌≡◌ {A = ℕ} 0 (if x then 1 else 0)
-one-no e t = rw (sym e ∙ t)
+pub one_no : {r x : Bool} → r ≡ x → r ≡ false → ◌≡◌ {A = ℕ} 0 (if x then 1 else 0)
+one_no e t = rw (sym e ∙ t)
 
-pub one-most : (x : Bool) {r : ℕ} → r ≡ (if x then 1 else 0) → r ≤ 1
-one-most true e = omega (arith, e)
-one-most false e = omega (arith, e)
+pub one_most : (x : Bool) {r : ℕ} → r ≡ (if x then 1 else 0) → r ≤ 1
+one_most true e = omega (arith, e)
+one_most false e = omega (arith, e)
 
 -- ---- how often
 module _ (x s : Text) (starts : List ℕ) (f t : ℕ) where
@@ -33,15 +33,15 @@ module _ (x s : Text) (starts : List ℕ) (f t : ℕ) where
   pub counted_none : Counted 0 f
   counted_none = omega arith
 
-  pub counted-more : (n i : ℕ) {a r : ℕ} → Counted n i → i < t → t ≤ length starts → a ≡ get_or starts i 0 → r ≡ (if same x (line_at s a) then 1 else 0) → Counted (n + r) (i + 1)
+  pub counted_more : (n i : ℕ) {a r : ℕ} → Counted n i → i < t → t ≤ length starts → a ≡ get_or starts i 0 → r ≡ (if same x (line_at s a) then 1 else 0) → Counted (n + r) (i + 1)
   unfolding times_in
-  counted-more n i {a} {r} c h l e q =
-      let step : times_in x (lines_in s starts i t) ≡ r + times_in x (lines_in s starts (i + 1) t) = rw (part-cons s starts i t h l, ← e, ← q) in
+  counted_more n i {a} {r} c h l e q =
+      let step : times_in x (lines_in s starts i t) ≡ r + times_in x (lines_in s starts (i + 1) t) = rw (part_cons s starts i t h l, ← e, ← q) in
       omega (arith, c, step)
 
-  pub counted-all : (n i : ℕ) → Counted n i → t ≤ i → n ≡ times_in x (lines_in s starts f t)
+  pub counted_all : (n i : ℕ) → Counted n i → t ≤ i → n ≡ times_in x (lines_in s starts f t)
   unfolding times_in
-  counted-all n i c h = let e : times_in x (lines_in s starts i t) ≡ 0 = rw (part_end s starts i t h) in omega (arith, c, e)
+  counted_all n i c h = let e : times_in x (lines_in s starts i t) ≡ 0 = rw (part_end s starts i t h) in omega (arith, c, e)
 
 -- ---- each as often
 module _ (s : Text) (starts : List ℕ) (t : ℕ) (l m : List Text) where
@@ -51,24 +51,24 @@ module _ (s : Text) (starts : List ℕ) (t : ℕ) (l m : List Text) where
   module _ (f i : ℕ) {a p q : ℕ} (c : Even f i) (h : i < t) (k : t ≤ length starts) (e : a ≡ get_or starts i 0) (u : p ≡ times_in (line_at s a) l) (v : q ≡ times_in (line_at s a) m) where
     step : all (lines_in s starts f t) (even_in l m) ≡ (eqb p q && all (lines_in s starts (i + 1) t) (even_in l m))
     unfolding all even_in
-    step = c ∙ rw (part-cons s starts i t h k, ← e, ← u, ← v)
+    step = c ∙ rw (part_cons s starts i t h k, ← e, ← u, ← v)
 
-    pub even-more : p ≡ q → Even f (i + 1)
-    even-more z = step ∙ rw (eq-eqb p q z)
+    pub even_more : p ≡ q → Even f (i + 1)
+    even_more z = step ∙ rw (eq-eqb p q z)
 
-    pub even-stop : (p ≡ q → ⊥) → false ≡ all (lines_in s starts f t) (even_in l m)
-    even-stop z = sym (step ∙ rw (ne_eqb p q z))
+    pub even_stop : (p ≡ q → ⊥) → false ≡ all (lines_in s starts f t) (even_in l m)
+    even_stop z = sym (step ∙ rw (ne_eqb p q z))
 
-  pub even-all : (f i : ℕ) → Even f i → t ≤ i → true ≡ all (lines_in s starts f t) (even_in l m)
+  pub even_all : (f i : ℕ) → Even f i → t ≤ i → true ≡ all (lines_in s starts f t) (even_in l m)
   unfolding all
-  even-all f i c h = sym (c ∙ rw (part_end s starts i t h))
+  even_all f i c h = sym (c ∙ rw (part_end s starts i t h))
 
 -- ---- as many
 module _ (l m : List Text) {u v : ℕ} (a : length l ≡ u) (b : length m ≡ v) where
-  pub often-not : (u ≡ v → ⊥) → false ≡ as_often l m
+  pub often_not : (u ≡ v → ⊥) → false ≡ as_often l m
   unfolding as_often
-  often-not h = rw (ne_eqb (length l) (length m) (λ e. h (sym a ∙ e ∙ b)))
+  often_not h = rw (ne_eqb (length l) (length m) (λ e. h (sym a ∙ e ∙ b)))
 
-  pub often-by : u ≡ v → {r : Bool} → r ≡ all l (even_in l m) → r ≡ as_often l m
+  pub often_by : u ≡ v → {r : Bool} → r ≡ all l (even_in l m) → r ≡ as_often l m
   unfolding as_often
-  often-by h q = rw (eq-eqb (length l) (length m) (a ∙ h ∙ sym b)) q
+  often_by h q = rw (eq-eqb (length l) (length m) (a ∙ h ∙ sym b)) q

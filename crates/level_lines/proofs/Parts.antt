@@ -13,9 +13,9 @@ use Rattle.live_lines.proofs.Living.{lines_snoc}
 use Rattle.level_lines.specs.LevelLines.{lines_in}
 
 module _ (s : Text) (starts : List ℕ) where
-  pub part-cons : (f t : ℕ) → f < t → t ≤ length starts → lines_in s starts f t ≡ line_at s (get_or starts f 0) ∷ lines_in s starts (f + 1) t
+  pub part_cons : (f t : ℕ) → f < t → t ≤ length starts → lines_in s starts f t ≡ line_at s (get_or starts f 0) ∷ lines_in s starts (f + 1) t
   unfolding lines_in lines_at
-  part-cons f t h l = rw (slice-cons f t starts 0 h l, add-one f)
+  part_cons f t h l = rw (slice-cons f t starts 0 h l, add-one f)
 
   pub part_end : (f t : ℕ) → t ≤ f → lines_in s starts f t ≡ []
   unfolding lines_in lines_at
@@ -25,9 +25,9 @@ module _ (s : Text) (starts : List ℕ) where
   unfolding lines_in lines_at
   part_length f t h = length-map (slice f t starts) (line_at s) ∙ length-slice f t starts h
 
-  pub part-snoc : (f t : ℕ) → f ≤ t → t < length starts → lines_in s starts f (suc t) ≡ lines_in s starts f t ++ (line_at s (get_or starts t 0) ∷ [])
+  pub part_snoc : (f t : ℕ) → f ≤ t → t < length starts → lines_in s starts f (suc t) ≡ lines_in s starts f t ++ (line_at s (get_or starts t 0) ∷ [])
   unfolding lines_in
-  part-snoc f t h l =
+  part_snoc f t h l =
       let e : drop f (take (suc t) starts) ≡ drop f (take t starts) ++ (get_or starts t 0 ∷ []) =
       rw (take-suc starts t 0 l) (drop-append-le f (take t starts) (get_or starts t 0 ∷ []) (omega (arith, length-take t starts))) in
       ap (lines_at s) e ∙ lines_snoc s (drop f (take t starts)) (get_or starts t 0)

@@ -13,10 +13,10 @@ use Rattle.basics.proofs.Bool.{and_both}
 use Rattle.smt_engines.specs.Reader.{Stack, first, over, join, Reader, live, hear_kind, hear, hear_all}
 use Rattle.command_lines.specs.Lines.{line_at}
 use Rattle.live_lines.specs.LiveLines.{push_at, lines_at, last_push, is_live, Lives}
-use Rattle.live_lines.proofs.Living.{live-is, hear-snoc, all_snoc, lines_snoc, Told, push, joined, told}
-use Rattle.live_lines.proofs.Popping.{last-below}
+use Rattle.live_lines.proofs.Living.{live_is, hear_snoc, all_snoc, lines_snoc, Told, push, joined, told}
+use Rattle.live_lines.proofs.Popping.{last_below}
 use Rattle.level_lines.specs.LevelLines.{lines_in, grown, stack_of, has_push}
-use Rattle.level_lines.proofs.Parts.{part-snoc, part_end}
+use Rattle.level_lines.proofs.Parts.{part_snoc, part_end}
 
 module _ (s : Text) (starts : List ℕ) where
   -- one level, or a level over the stack below the last push
@@ -29,9 +29,9 @@ module _ (s : Text) (starts : List ℕ) where
   unfolding last_push
   last-push k e = rw e
 
-  last-other : (k : ℕ) → push_at s starts k ≡ false → last_push s starts (suc k) ≡ last_push s starts k
+  last_other : (k : ℕ) → push_at s starts k ≡ false → last_push s starts (suc k) ≡ last_push s starts k
   unfolding last_push
-  last-other k e = rw e
+  last_other k e = rw e
 
   pub view : (n : ℕ) → n ≤ length starts → View n
   unfolding has_push stack_of grown join
@@ -43,33 +43,33 @@ module _ (s : Text) (starts : List ℕ) where
           let q = last-push k e in
           tall (rw e) (rw (q, e, part_end s starts (suc k) (suc k) (omega arith))) (omega (arith, q)) (ap (push_at s starts) q ∙ e)
       at false e (flat p st g) =
-          let q = last-other k e in
-          flat (rw e p) (rw (e, st) (ap first (sym (part-snoc s starts 0 k (omega arith) (omega arith)))))
+          let q = last_other k e in
+          flat (rw e p) (rw (e, st) (ap first (sym (part_snoc s starts 0 k (omega arith) (omega arith)))))
           (λ l. ap (push_at s starts) q ∙ low (dec_lt (last_push s starts k) k))
         where
           low : Dec (last_push s starts k < k) → push_at s starts (last_push s starts k) ≡ false
           low (yes l) = g l
-          low (no l) = let z : last_push s starts k ≡ k = omega (arith, last-below s starts k) in ap (push_at s starts) z ∙ e
+          low (no l) = let z : last_push s starts k ≡ k = omega (arith, last_below s starts k) in ap (push_at s starts) z ∙ e
       at false e (tall p st l g) =
-          let q = last-other k e in
+          let q = last_other k e in
           tall (rw e p)
-          (rw (q, e, st) (ap {B = Stack} (λ m. over m (stack_of s starts (last_push s starts k))) (sym (part-snoc s starts (suc (last_push s starts k)) k (omega arith) (omega arith)))))
+          (rw (q, e, st) (ap {B = Stack} (λ m. over m (stack_of s starts (last_push s starts k))) (sym (part_snoc s starts (suc (last_push s starts k)) k (omega arith) (omega arith)))))
           (omega (arith, q)) (ap (push_at s starts) q ∙ g)
 
   -- what the starts leave, by the reader
-  pub heard-stack : (n : ℕ) → n ≤ length starts → all (lines_at s (take n starts)) is_live ≡ true → hear_all (live (first [])) (lines_at s (take n starts)) ≡ live (stack_of s starts n)
+  pub heard_stack : (n : ℕ) → n ≤ length starts → all (lines_at s (take n starts)) is_live ≡ true → hear_all (live (first [])) (lines_at s (take n starts)) ≡ live (stack_of s starts n)
   unfolding hear_all hear hear_kind lines_at stack_of grown
-  heard-stack zero h a = refl
-  heard-stack (suc k) h a =
+  heard_stack zero h a = refl
+  heard_stack (suc k) h a =
       let x = line_at s (get_or starts k 0) in
       let apart : lines_at s (take (suc k) starts) ≡ lines_at s (take k starts) ++ (x ∷ []) = ap (lines_at s) (take-suc starts k 0 (omega arith)) ∙ lines_snoc s (take k starts) (get_or starts k 0) in
       let both = and_both (all (lines_at s (take k starts)) is_live) (is_live x) (sym (all_snoc (lines_at s (take k starts)) x) ∙ ap {B = Bool} (λ ls. all ls is_live) (sym apart) ∙ a) in
-      ap (hear_all (live (first []))) apart ∙ hear-snoc (live (first [])) (lines_at s (take k starts)) x
-      ∙ ap {B = Reader} (λ r. hear r x) (heard-stack k (omega arith) both.0) ∙ by (told x both.1)
+      ap (hear_all (live (first []))) apart ∙ hear_snoc (live (first [])) (lines_at s (take k starts)) x
+      ∙ ap {B = Reader} (λ r. hear r x) (heard_stack k (omega arith) both.0) ∙ by (told x both.1)
     where
       by : Told (line_at s (get_or starts k 0)) → hear (live (stack_of s starts k)) (line_at s (get_or starts k 0)) ≡ live (grown (push_at s starts k) (line_at s (get_or starts k 0)) (stack_of s starts k))
       by (push p e) = rw (p, e)
       by (joined p e) = rw (p, e)
 
-  pub lives-stack : {n at : ℕ} {st : Stack} → Lives s starts n at st → st ≡ stack_of s starts n
-  lives-stack {n} l = live-is (sym l.heard ∙ heard-stack n l.held l.lines)
+  pub lives_stack : {n at : ℕ} {st : Stack} → Lives s starts n at st → st ≡ stack_of s starts n
+  lives_stack {n} l = live_is (sym l.heard ∙ heard_stack n l.held l.lines)

@@ -20,58 +20,58 @@ use Rattle.rsolver.specs.REngine.{declare_type, declare_constant, declare_functi
 use Rattle.levels.specs.declared.Progress.{Progress}
 use Rattle.levels.specs.Did.{Did, Ready}
 use Rattle.levels.specs.Types.{engine, user_type_step, type_step, types_step, constant_types_step, constant_step, function_step}
-use Rattle.levels.proofs.Steps.{did-skip, did_then, did-as, did-unless, did-not, did-told, did_none, did_more}
+use Rattle.levels.proofs.Steps.{did_skip, did_then, did_as, did_unless, did_not, did_told, did_none, did_more}
 
 module _ (b : Book) where
-  pub user-new : (k : ℕ) {n : ℕ} {ls ls1 : List ℕ} {so r : Progress} {o o1 : List ℕ} → get_or ls k 0 ≡ 0 → ls1 ≡ join_at ls k n
+  pub user_new : (k : ℕ) {n : ℕ} {ls ls1 : List ℕ} {so r : Progress} {o o1 : List ℕ} → get_or ls k 0 ≡ 0 → ls1 ≡ join_at ls k n
       → WroteAt (script (DeclareSort (type_decl_of b k) ∷ [])) so.at o o1 r.at → r.missing ≡ so.missing → Did (user_type_step b k) n ls ls1 so o o1 r
   unfolding user_type_step declare_new_types declare_type place is_declared_at
-  user-new k {ls = ls} z j w e = did-unless _ _ (λ st sent. rw (eq-eqb (get_or ls k 0) 0 z)) (did-told _ _ j w e)
+  user_new k {ls = ls} z j w e = did_unless _ _ (λ st sent. rw (eq-eqb (get_or ls k 0) 0 z)) (did_told _ _ j w e)
 
-  pub user-old : (k : ℕ) {n : ℕ} {ls : List ℕ} {so : Progress} {o : List ℕ} → (get_or ls k 0 ≡ 0 → ⊥) → so.at < MOST + 1 → Did (user_type_step b k) n ls ls so o o so
+  pub user_old : (k : ℕ) {n : ℕ} {ls : List ℕ} {so : Progress} {o : List ℕ} → (get_or ls k 0 ≡ 0 → ⊥) → so.at < MOST + 1 → Did (user_type_step b k) n ls ls so o o so
   unfolding user_type_step declare_new_types declare_type place is_declared_at
-  user-old k {ls = ls} {o = o} z h = did-not _ _ _ o (λ st sent. rw (ne_eqb (get_or ls k 0) 0 z)) h
+  user_old k {ls = ls} {o = o} z h = did_not _ _ _ o (λ st sent. rw (ne_eqb (get_or ls k 0) 0 z)) h
 
-  pub type-none : (typ : ℕ) {n : ℕ} {ls : List ℕ} {so : Progress} {o : List ℕ} → typ ≤ 1 → so.at < MOST + 1 → Did (type_step b typ) n ls ls so o o so
+  pub type_none : (typ : ℕ) {n : ℕ} {ls : List ℕ} {so : Progress} {o : List ℕ} → typ ≤ 1 → so.at < MOST + 1 → Did (type_step b typ) n ls ls so o o so
   unfolding type_step type_of declare_new_types
-  type-none zero l h = did-skip _ _ _ _ h
-  type-none (suc zero) l h = did-skip _ _ _ _ h
-  type-none (suc (suc k)) l h = absurd (omega arith)
+  type_none zero l h = did_skip _ _ _ _ h
+  type_none (suc zero) l h = did_skip _ _ _ _ h
+  type_none (suc (suc k)) l h = absurd (omega arith)
 
-  pub type-some : (typ : ℕ) {n : ℕ} {ls ls1 : List ℕ} {so r : Progress} {o o1 : List ℕ} → 1 < typ → Did (user_type_step b (typ - user_types)) n ls ls1 so o o1 r → Did (type_step b typ) n ls ls1 so o o1 r
+  pub type_some : (typ : ℕ) {n : ℕ} {ls ls1 : List ℕ} {so r : Progress} {o o1 : List ℕ} → 1 < typ → Did (user_type_step b (typ - user_types)) n ls ls1 so o o1 r → Did (type_step b typ) n ls ls1 so o o1 r
   unfolding type_step user_type_step type_of
-  type-some zero l d = absurd (omega arith)
-  type-some (suc zero) l d = absurd (omega arith)
-  type-some (suc (suc k)) l d = let e : suc (suc k) - user_types ≡ k = omega arith in rw e at d
+  type_some zero l d = absurd (omega arith)
+  type_some (suc zero) l d = absurd (omega arith)
+  type_some (suc (suc k)) l d = let e : suc (suc k) - user_types ≡ k = omega arith in rw e at d
 
-  pub types-none : (start n : ℕ) (ls : List ℕ) (so : Progress) (o : List ℕ) → so.at < MOST + 1 → Did (types_step b start 0) n ls ls so o o so
+  pub types_none : (start n : ℕ) (ls : List ℕ) (so : Progress) (o : List ℕ) → so.at < MOST + 1 → Did (types_step b start 0) n ls ls so o o so
   unfolding types_step
-  types-none start n ls so o h = did_none n ls so o b (type_of b) _ start h
+  types_none start n ls so o h = did_none n ls so o b (type_of b) _ start h
 
   pub types_more : (start i : ℕ) {n k : ℕ} {ls ls1 ls2 : List ℕ} {so s1 s2 : Progress} {o o1 o2 : List ℕ} → length o < MOST + 1
       → Did (types_step b start i) n ls ls1 so o o1 s1 → k ≡ field b lists (start + i) 0 → Did (type_step b k) n ls1 ls2 s1 o1 o2 s2 → Did (types_step b start (i + 1)) n ls ls2 so o o2 s2
   unfolding types_step type_step
   types_more start i short a e d = did_more b (type_of b) _ start i short a e d
 
-  pub variables-none : (start n : ℕ) (ls : List ℕ) (so : Progress) (o : List ℕ) → so.at < MOST + 1 → Did (constant_types_step b start 0) n ls ls so o o so
+  pub variables_none : (start n : ℕ) (ls : List ℕ) (so : Progress) (o : List ℕ) → so.at < MOST + 1 → Did (constant_types_step b start 0) n ls ls so o o so
   unfolding constant_types_step
-  variables-none start n ls so o h = did_none n ls so o b (constant_of b) _ start h
+  variables_none start n ls so o h = did_none n ls so o b (constant_of b) _ start h
 
-  pub variables-more : (start i : ℕ) {n v typ : ℕ} {ls ls1 ls2 : List ℕ} {so s1 s2 : Progress} {o o1 o2 : List ℕ} → length o < MOST + 1
+  pub variables_more : (start i : ℕ) {n v typ : ℕ} {ls ls1 ls2 : List ℕ} {so s1 s2 : Progress} {o o1 o2 : List ℕ} → length o < MOST + 1
       → Did (constant_types_step b start i) n ls ls1 so o o1 s1 → v ≡ field b lists (start + i) 0 → typ ≡ field b constants v 1 → Did (type_step b typ) n ls1 ls2 s1 o1 o2 s2
       → Did (constant_types_step b start (i + 1)) n ls ls2 so o o2 s2
   unfolding constant_types_step type_step declare_type_of constant_of
-  variables-more start i short a e f d = did_more b (constant_of b) _ start i short a e (rw f at d)
+  variables_more start i short a e f d = did_more b (constant_of b) _ start i short a e (rw f at d)
 
-  pub constant-is : (k : ℕ) {n typ : ℕ} {ls ls1 ls2 : List ℕ} {so s1 r : Progress} {o o1 o2 : List ℕ} → length o < MOST + 1
+  pub constant_is : (k : ℕ) {n typ : ℕ} {ls ls1 ls2 : List ℕ} {so s1 r : Progress} {o o1 o2 : List ℕ} → length o < MOST + 1
       → typ ≡ field b constants k 1 → Did (type_step b typ) n ls ls1 so o o1 s1 → ls2 ≡ join_at ls1 (constant_places + k) n
       → WroteAt (script (DeclareConstant (constant_of b k) ∷ [])) s1.at o1 o2 r.at → r.missing ≡ s1.missing → Did (constant_step b k) n ls ls2 so o o2 r
   unfolding constant_step type_step declare_constant constant_of place
-  constant-is k short e d j w m = did_then short (rw e at d) (did-told _ _ j w m)
+  constant_is k short e d j w m = did_then short (rw e at d) (did_told _ _ j w m)
 
-  pub function-is : (k : ℕ) {n start count typ : ℕ} {ls ls1 ls2 ls3 : List ℕ} {so s1 s2 r : Progress} {o o1 o2 o3 : List ℕ} → length o < MOST + 1
+  pub function_is : (k : ℕ) {n start count typ : ℕ} {ls ls1 ls2 ls3 : List ℕ} {so s1 s2 r : Progress} {o o1 o2 o3 : List ℕ} → length o < MOST + 1
       → start ≡ field b functions k 2 → count ≡ field b functions k 3 → Did (types_step b start count) n ls ls1 so o o1 s1
       → typ ≡ field b functions k 1 → Did (type_step b typ) n ls1 ls2 s1 o1 o2 s2 → ls3 ≡ join_at ls2 (function_places + k) n
       → WroteAt (script (DeclareFunction (function_of b k) ∷ [])) s2.at o2 o3 r.at → r.missing ≡ s2.missing → length o1 ≡ length o → Did (function_step b k) n ls ls3 so o o3 r
   unfolding function_step types_step type_step declare_function function_of place
-  function-is k short es ec a e d j w m l = did_then short (rw (es, ec) at a) (did_then (omega arith) (rw e at d) (did-told _ _ j w m))
+  function_is k short es ec a e d j w m l = did_then short (rw (es, ec) at a) (did_then (omega arith) (rw e at d) (did_told _ _ j w m))

@@ -9,30 +9,30 @@ use lib.Seq.{take_all}
 use Rattle.rsolver.specs.LevelState.{join_at, count}
 use Rattle.levels.specs.Marks.{declared}
 
-pub join-new : (ls : List ℕ) (k n : ℕ) → get_or ls k 0 ≡ 0 → k < length ls → set ls k n ≡ join_at ls k n
+pub join_new : (ls : List ℕ) (k n : ℕ) → get_or ls k 0 ≡ 0 → k < length ls → set ls k n ≡ join_at ls k n
 unfolding join_at
-join-new [] k n e h = absurd (omega arith)
-join-new (zero ∷ ls) zero n e h = refl
-join-new (suc l ∷ ls) zero n e h = absurd (omega arith)
-join-new (zero ∷ ls) (suc k) n e h = rw (join-new ls k n e (omega arith))
-join-new (suc l ∷ ls) (suc k) n e h = rw (join-new ls k n e (omega arith))
+join_new [] k n e h = absurd (omega arith)
+join_new (zero ∷ ls) zero n e h = refl
+join_new (suc l ∷ ls) zero n e h = absurd (omega arith)
+join_new (zero ∷ ls) (suc k) n e h = rw (join_new ls k n e (omega arith))
+join_new (suc l ∷ ls) (suc k) n e h = rw (join_new ls k n e (omega arith))
 
-pub join-old : (ls : List ℕ) (k n : ℕ) → (get_or ls k 0 ≡ 0 → ⊥) → ls ≡ join_at ls k n
+pub join_old : (ls : List ℕ) (k n : ℕ) → (get_or ls k 0 ≡ 0 → ⊥) → ls ≡ join_at ls k n
 unfolding join_at
-join-old [] k n e = refl
-join-old (zero ∷ ls) zero n e = absurd (e refl)
-join-old (suc l ∷ ls) zero n e = refl
-join-old (zero ∷ ls) (suc k) n e = ap {B = List ℕ} (λ (l : List ℕ). zero ∷ l) (join-old ls k n e)
-join-old (suc l ∷ ls) (suc k) n e = ap {B = List ℕ} (λ (m : List ℕ). suc l ∷ m) (join-old ls k n e)
+join_old [] k n e = refl
+join_old (zero ∷ ls) zero n e = absurd (e refl)
+join_old (suc l ∷ ls) zero n e = refl
+join_old (zero ∷ ls) (suc k) n e = ap {B = List ℕ} (λ (l : List ℕ). zero ∷ l) (join_old ls k n e)
+join_old (suc l ∷ ls) (suc k) n e = ap {B = List ℕ} (λ (m : List ℕ). suc l ∷ m) (join_old ls k n e)
 
-pub declared-none : {l : ℕ} → l ≡ 0 → 0 ≡ declared l
+pub declared_none : {l : ℕ} → l ≡ 0 → 0 ≡ declared l
 unfolding declared
-declared-none e = rw e
+declared_none e = rw e
 
-pub declared-one : (l : ℕ) → (l ≡ 0 → ⊥) → 1 ≡ declared l
+pub declared_one : (l : ℕ) → (l ≡ 0 → ⊥) → 1 ≡ declared l
 unfolding declared
-declared-one zero h = absurd (h refl)
-declared-one (suc l) h = refl
+declared_one zero h = absurd (h refl)
+declared_one (suc l) h = refl
 
 pub count_none : (ls : List ℕ) → 0 ≡ count (take 0 ls)
 unfolding count
@@ -46,10 +46,10 @@ count_next (suc l ∷ ls) zero h = refl
 count_next (zero ∷ ls) (suc i) h = count_next ls i (omega arith)
 count_next (suc l ∷ ls) (suc i) h = omega (arith, count_next ls i (omega arith))
 
-declared-most : (l : ℕ) → declared l ≤ 1
+declared_most : (l : ℕ) → declared l ≤ 1
 unfolding declared
-declared-most zero = omega arith
-declared-most (suc l) = omega arith
+declared_most zero = omega arith
+declared_most (suc l) = omega arith
 
 -- the first i places have n
 pub record Counted (ls : List ℕ) (i n : ℕ) : Type 0 where
@@ -59,11 +59,11 @@ pub record Counted (ls : List ℕ) (i n : ℕ) : Type 0 where
 pub counted_none : (ls : List ℕ) → Counted ls 0 0
 counted_none ls = record { is = count_none ls; most = omega arith }
 
-pub counted-more : {ls : List ℕ} {i n d : ℕ} → Counted ls i n → i < length ls → d ≡ declared (get_or ls i 0) → Counted ls (i + 1) (n + d)
-counted-more {ls} {i} c h e = record { is = rw (add-one i, e, c.is) (count_next ls i h); most = omega (arith, c.most, declared-most (get_or ls i 0)) }
+pub counted_more : {ls : List ℕ} {i n d : ℕ} → Counted ls i n → i < length ls → d ≡ declared (get_or ls i 0) → Counted ls (i + 1) (n + d)
+counted_more {ls} {i} c h e = record { is = rw (add-one i, e, c.is) (count_next ls i h); most = omega (arith, c.most, declared_most (get_or ls i 0)) }
 
-pub counted-all : {ls : List ℕ} {i n : ℕ} → Counted ls i n → length ls ≤ i → n ≡ count ls
-counted-all {ls} {i} c h = c.is ∙ ap count (take_all i ls h)
+pub counted_all : {ls : List ℕ} {i n : ℕ} → Counted ls i n → length ls ≤ i → n ≡ count ls
+counted_all {ls} {i} c h = c.is ∙ ap count (take_all i ls h)
 
-pub counted-fits : {ls : List ℕ} {i n d : ℕ} → Counted ls i n → i < length ls → d ≡ declared (get_or ls i 0) → n + d ≤ length ls
-counted-fits {ls} {i} c h e = omega (arith, c.most, declared-most (get_or ls i 0))
+pub counted_fits : {ls : List ℕ} {i n d : ℕ} → Counted ls i n → i < length ls → d ≡ declared (get_or ls i 0) → n + d ≤ length ls
+counted_fits {ls} {i} c h e = omega (arith, c.most, declared_most (get_or ls i 0))

@@ -7,7 +7,7 @@ use Rattle.basics.specs.Text.{Text}
 use Rattle.book.specs.Book.{Book, constants, terms, size, field, name_text}
 use Rattle.book.specs.Decode.{kind_of, constant_of, function_of, literal_of, term_by, term}
 use Rattle.book_test.specs.Promise.{Promise, Range}
-use Rattle.book_test.proofs.TermKinds.{each-kind, known, shape, good-built-in, good-application}
+use Rattle.book_test.proofs.TermKinds.{each_kind, known, shape, good_built_in, good_application}
 use Rattle.rsolver.specs.Listing.{roperator_to_string, bound_var_to_string, custom_literal_to_string, rexpr_to_string, rexpr_list_to_string}
 use Rattle.listing_terms.specs.Texts.{boolean_text, integer_text, operator_text, universal, variables_text, terms_text, patterns_text, arguments_text, if_text, let_text, quantifier_text}
 
@@ -16,55 +16,55 @@ module _ {b : Book} (P : Promise b) {t : ℕ} (here : t < size b terms) {k : ℕ
   is = shape P here kind
 
   -- an application, built-in or not
-  pub application-kind : (k ≡ 0 → ⊥) → (k ≡ 1 → ⊥) → (k ≡ 2 → ⊥) → (k ≡ 3 → ⊥) → (k ≡ 6 → ⊥) → (k ≡ 7 → ⊥) → (k ≡ 8 → ⊥) → (4 ≤ k) × (k ≤ 5)
-  application-kind h0 h1 h2 h3 h6 h7 h8 =
-      each-kind k (known P here kind) (λ e. absurd (h0 e)) (λ e. absurd (h1 e)) (λ e. absurd (h2 e)) (λ e. absurd (h3 e)) (λ e. (omega arith, omega arith)) (λ e. (omega arith, omega arith))
+  pub application_kind : (k ≡ 0 → ⊥) → (k ≡ 1 → ⊥) → (k ≡ 2 → ⊥) → (k ≡ 3 → ⊥) → (k ≡ 6 → ⊥) → (k ≡ 7 → ⊥) → (k ≡ 8 → ⊥) → (4 ≤ k) × (k ≤ 5)
+  application_kind h0 h1 h2 h3 h6 h7 h8 =
+      each_kind k (known P here kind) (λ e. absurd (h0 e)) (λ e. absurd (h1 e)) (λ e. absurd (h2 e)) (λ e. absurd (h3 e)) (λ e. (omega arith, omega arith)) (λ e. (omega arith, omega arith))
       (λ e. absurd (h6 e)) (λ e. absurd (h7 e)) (λ e. absurd (h8 e))
 
   either : {A : Type 0} → 4 ≤ k → k ≤ 5 → (k ≡ 4 → A) → (k ≡ 5 → A) → A
   either l m f g =
-      each-kind k (known P here kind) (λ e. absurd (omega arith)) (λ e. absurd (omega arith)) (λ e. absurd (omega arith)) (λ e. absurd (omega arith)) f g (λ e. absurd (omega arith))
+      each_kind k (known P here kind) (λ e. absurd (omega arith)) (λ e. absurd (omega arith)) (λ e. absurd (omega arith)) (λ e. absurd (omega arith)) f g (λ e. absurd (omega arith))
       (λ e. absurd (omega arith)) (λ e. absurd (omega arith))
 
-  pub good-arguments : 4 ≤ k → k ≤ 5 → Range b t (field b terms t 2) (field b terms t 3)
-  good-arguments l m = either l m (λ e. (good-built-in P here kind e).args) (λ e. (good-application P here kind e).args)
+  pub good_arguments : 4 ≤ k → k ≤ 5 → Range b t (field b terms t 2) (field b terms t 3)
+  good_arguments l m = either l m (λ e. (good_built_in P here kind e).args) (λ e. (good_application P here kind e).args)
 
   -- ---- its text
-  pub of-boolean : k ≡ 0 → boolean_text b t ≡ rexpr_to_string (term b t)
+  pub of_boolean : k ≡ 0 → boolean_text b t ≡ rexpr_to_string (term b t)
   unfolding rexpr_to_string term_by kind_of boolean_text
-  of-boolean e = rw (is, e)
+  of_boolean e = rw (is, e)
 
-  pub of-integer : k ≡ 1 → integer_text b t ≡ rexpr_to_string (term b t)
+  pub of_integer : k ≡ 1 → integer_text b t ≡ rexpr_to_string (term b t)
   unfolding rexpr_to_string term_by kind_of integer_text
-  of-integer e = rw (is, e)
+  of_integer e = rw (is, e)
 
-  pub of-literal : k ≡ 2 → custom_literal_to_string (literal_of b t) ≡ rexpr_to_string (term b t)
+  pub of_literal : k ≡ 2 → custom_literal_to_string (literal_of b t) ≡ rexpr_to_string (term b t)
   unfolding rexpr_to_string term_by kind_of
-  of-literal e = rw (is, e)
+  of_literal e = rw (is, e)
 
-  pub of-id : {s : Text} {v : ℕ} → k ≡ 3 → v ≡ field b terms t 1 → s ≡ name_text b (field b constants v 0) → s ≡ rexpr_to_string (term b t)
+  pub of_id : {s : Text} {v : ℕ} → k ≡ 3 → v ≡ field b terms t 1 → s ≡ name_text b (field b constants v 0) → s ≡ rexpr_to_string (term b t)
   unfolding rexpr_to_string term_by kind_of constant_of
-  of-id e ev h = h ∙ rw (ev, is, e)
+  of_id e ev h = h ∙ rw (ev, is, e)
 
-  of-built-in : k ≡ 4 → operator_text b t ++ arguments_text b t ≡ rexpr_to_string (term b t)
+  of_built_in : k ≡ 4 → operator_text b t ++ arguments_text b t ≡ rexpr_to_string (term b t)
   unfolding rexpr_to_string term_by kind_of roperator_to_string operator_text arguments_text terms_text rexpr_list_to_string
-  of-built-in e = rw (is, ← kind, e) (simp append_assoc)
+  of_built_in e = rw (is, ← kind, e) (simp append_assoc)
 
   of_function : k ≡ 5 → operator_text b t ++ arguments_text b t ≡ rexpr_to_string (term b t)
   unfolding rexpr_to_string term_by kind_of roperator_to_string function_of operator_text arguments_text terms_text rexpr_list_to_string
   of_function e = rw (is, ← kind, e) (simp append_assoc)
 
-  pub of-application : 4 ≤ k → k ≤ 5 → operator_text b t ++ arguments_text b t ≡ rexpr_to_string (term b t)
-  of-application l m = either l m of-built-in of_function
+  pub of_application : 4 ≤ k → k ≤ 5 → operator_text b t ++ arguments_text b t ≡ rexpr_to_string (term b t)
+  of_application l m = either l m of_built_in of_function
 
-  pub of-if : k ≡ 6 → if_text b t ≡ rexpr_to_string (term b t)
+  pub of_if : k ≡ 6 → if_text b t ≡ rexpr_to_string (term b t)
   unfolding rexpr_to_string term_by kind_of if_text
-  of-if e = rw (is, e) (simp append_assoc)
+  of_if e = rw (is, e) (simp append_assoc)
 
-  pub of-let : k ≡ 7 → let_text b t ≡ rexpr_to_string (term b t)
+  pub of_let : k ≡ 7 → let_text b t ≡ rexpr_to_string (term b t)
   unfolding rexpr_to_string term_by kind_of let_text bound_var_to_string
-  of-let e = rw (is, e) (simp append_assoc)
+  of_let e = rw (is, e) (simp append_assoc)
 
-  pub of-quantifier : k ≡ 8 → quantifier_text b t ≡ rexpr_to_string (term b t)
+  pub of_quantifier : k ≡ 8 → quantifier_text b t ≡ rexpr_to_string (term b t)
   unfolding rexpr_to_string term_by kind_of quantifier_text variables_text patterns_text universal
-  of-quantifier e = rw (is, e) (simp append_assoc)
+  of_quantifier e = rw (is, e) (simp append_assoc)

@@ -13,53 +13,53 @@ use Rattle.book_test.proofs.Names.{name-length}
 use Rattle.solver_expr.specs.SolverExpr.{type_to_string}
 use Rattle.solver_expr.specs.Lowering.{literal_name}
 use Rattle.literal_names.specs.Names.{barred}
-use Rattle.literal_names.proofs.Pairs.{longer, one-colon, one_type}
+use Rattle.literal_names.proofs.Pairs.{longer, one_colon, one_type}
 
 module _ (b : Book) where
-  pub name-is : (t : ℕ) {s typ : Text} → s ≡ name_text b (field b terms t 1) → typ ≡ type_to_string (type_of b (field b terms t 2)) → barred s typ ≡ literal_name (literal_of b t)
+  pub name_is : (t : ℕ) {s typ : Text} → s ≡ name_text b (field b terms t 1) → typ ≡ type_to_string (type_of b (field b terms t 2)) → barred s typ ≡ literal_name (literal_of b t)
   unfolding barred literal_name literal_of
-  name-is t e f = rw (e, f)
+  name_is t e f = rw (e, f)
 
   -- ---- the text of a type
-  pub string-bool : {k : ℕ} → k ≡ 0 → ascii "bool" ≡ type_to_string (type_of b k)
+  pub string_bool : {k : ℕ} → k ≡ 0 → ascii "bool" ≡ type_to_string (type_of b k)
   unfolding type_of type_to_string
-  string-bool e = rw e
+  string_bool e = rw e
 
-  pub string-int : {k : ℕ} → k ≡ 1 → ascii "int" ≡ type_to_string (type_of b k)
+  pub string_int : {k : ℕ} → k ≡ 1 → ascii "int" ≡ type_to_string (type_of b k)
   unfolding type_of type_to_string
-  string-int e = rw e
+  string_int e = rw e
 
-  pub string-user : (k : ℕ) → (k ≡ 0 → ⊥) → (k ≡ 1 → ⊥) → name_text b (field b types (k - 2) 0) ≡ type_to_string (type_of b k)
+  pub string_user : (k : ℕ) → (k ≡ 0 → ⊥) → (k ≡ 1 → ⊥) → name_text b (field b types (k - 2) 0) ≡ type_to_string (type_of b k)
   unfolding type_of type_to_string
-  string-user zero h k = absurd (h refl)
-  string-user (suc zero) h k = absurd (k refl)
-  string-user (suc (suc n)) h k = let e : suc (suc n) - 2 ≡ n = omega arith in rw e
+  string_user zero h k = absurd (h refl)
+  string_user (suc zero) h k = absurd (k refl)
+  string_user (suc (suc n)) h k = let e : suc (suc n) - 2 ≡ n = omega arith in rw e
 
-  pub user-type : {k : ℕ} → k < 2 + size b types → (k ≡ 0 → ⊥) → (k ≡ 1 → ⊥) → k - 2 < size b types
-  user-type g z o = omega (arith, g, z, o)
+  pub user_type : {k : ℕ} → k < 2 + size b types → (k ≡ 0 → ⊥) → (k ≡ 1 → ⊥) → k - 2 < size b types
+  user_type g z o = omega (arith, g, z, o)
 
   -- ---- names with the types' numbers
-  pub name-bool : (t : ℕ) {s : Text} {k : ℕ} → s ≡ name_text b (field b terms t 1) → k ≡ field b terms t 2 → k ≡ 0 → barred s (ascii "bool") ≡ literal_name (literal_of b t)
-  name-bool t e f z = name-is t e (string-bool (sym f ∙ z))
+  pub name_bool : (t : ℕ) {s : Text} {k : ℕ} → s ≡ name_text b (field b terms t 1) → k ≡ field b terms t 2 → k ≡ 0 → barred s (ascii "bool") ≡ literal_name (literal_of b t)
+  name_bool t e f z = name_is t e (string_bool (sym f ∙ z))
 
-  pub name-int : (t : ℕ) {s : Text} {k : ℕ} → s ≡ name_text b (field b terms t 1) → k ≡ field b terms t 2 → k ≡ 1 → barred s (ascii "int") ≡ literal_name (literal_of b t)
-  name-int t e f z = name-is t e (string-int (sym f ∙ z))
+  pub name_int : (t : ℕ) {s : Text} {k : ℕ} → s ≡ name_text b (field b terms t 1) → k ≡ field b terms t 2 → k ≡ 1 → barred s (ascii "int") ≡ literal_name (literal_of b t)
+  name_int t e f z = name_is t e (string_int (sym f ∙ z))
 
-  pub name-user : (t : ℕ) {s typ : Text} {k : ℕ} → s ≡ name_text b (field b terms t 1) → k ≡ field b terms t 2 → (k ≡ 0 → ⊥) → (k ≡ 1 → ⊥) → typ ≡ name_text b (field b types (k - 2) 0)
+  pub name_user : (t : ℕ) {s typ : Text} {k : ℕ} → s ≡ name_text b (field b terms t 1) → k ≡ field b terms t 2 → (k ≡ 0 → ⊥) → (k ≡ 1 → ⊥) → typ ≡ name_text b (field b types (k - 2) 0)
       → barred s typ ≡ literal_name (literal_of b t)
-  name-user t {k = k} e f z o q = name-is t e (q ∙ string-user k z o ∙ ap (λ (j : ℕ). type_to_string (type_of b j)) f)
+  name_user t {k = k} e f z o q = name_is t e (q ∙ string_user k z o ∙ ap (λ (j : ℕ). type_to_string (type_of b j)) f)
 
   -- ---- names and their records
-  pub reads-record : Promise b → {n : ℕ} (i : ℕ) → i < 2 → n < size b names → (1 < 10) × Holds b (section_at 1) n i
-  reads-record P i l h = (omega arith, record { laid = P.names-laid; here = h; within = omega arith })
+  pub reads_record : Promise b → {n : ℕ} (i : ℕ) → i < 2 → n < size b names → (1 < 10) × Holds b (section_at 1) n i
+  reads_record P i l h = (omega arith, record { laid = P.names_laid; here = h; within = omega arith })
 
   pub one_place : (n m : ℕ) → field b names n 0 ≡ field b names m 0 → field b names n 1 ≡ field b names m 1 → name_text b n ≡ name_text b m
   unfolding name_text
   one_place n m e f = rw (e, f)
 
-  pub user-length : Promise b → (k : ℕ) {n r : ℕ} → k < 2 + size b types → (k ≡ 0 → ⊥) → (k ≡ 1 → ⊥) → n ≡ field b types (k - 2) 0 → r ≡ field b names n 1 → r ≡ length (type_to_string (type_of b k))
-  user-length P k g z o e f =
-      f ∙ ap (λ (j : ℕ). field b names j 1) e ∙ sym (name-length b P _ (P.type-name (k - 2) (user-type g z o))) ∙ ap length (string-user k z o)
+  pub user_length : Promise b → (k : ℕ) {n r : ℕ} → k < 2 + size b types → (k ≡ 0 → ⊥) → (k ≡ 1 → ⊥) → n ≡ field b types (k - 2) 0 → r ≡ field b names n 1 → r ≡ length (type_to_string (type_of b k))
+  user_length P k g z o e f =
+      f ∙ ap (λ (j : ℕ). field b names j 1) e ∙ sym (name-length b P _ (P.type_name (k - 2) (user_type g z o))) ∙ ap length (string_user k z o)
 
   pub lengths : Promise b → (k : ℕ) {n x y z : ℕ} → GoodLiteral b k → n ≡ field b terms k 1 → x ≡ field b names n 1 → y ≡ field b terms k 2 → z ≡ length (type_to_string (type_of b y))
       → x + z ≡ length (name_text b (field b terms k 1)) + length (type_to_string (type_of b (field b terms k 2)))
@@ -67,11 +67,11 @@ module _ (b : Book) where
 
   -- ---- a literal against a name
   pub by_name : (k : ℕ) (s typ : Text) → typ ≡ type_to_string (type_of b (field b terms k 2)) → same (barred s typ) (literal_name (literal_of b k)) ≡ same s (name_text b (field b terms k 1))
-  by_name k s typ e = ap (same (barred s typ)) (sym (name-is k refl e)) ∙ one_type s typ (name_text b (field b terms k 1))
+  by_name k s typ e = ap (same (barred s typ)) (sym (name_is k refl e)) ∙ one_type s typ (name_text b (field b terms k 1))
 
   pub by_length : (k : ℕ) (s typ : Text) → (length s + length typ ≡ length (name_text b (field b terms k 1)) + length (type_to_string (type_of b (field b terms k 2))) → ⊥) → false ≡ same (barred s typ) (literal_name (literal_of b k))
-  by_length k s typ h = longer s typ _ _ h ∙ ap (same (barred s typ)) (name-is k refl refl)
+  by_length k s typ h = longer s typ _ _ h ∙ ap (same (barred s typ)) (name_is k refl refl)
 
   -- the colons stand at one place, and what is before them differs
   pub by_front : (k : ℕ) (s typ : Text) → length s ≡ length (name_text b (field b terms k 1)) → same s (name_text b (field b terms k 1)) ≡ false → false ≡ same (barred s typ) (literal_name (literal_of b k))
-  by_front k s typ e h = sym (ap (same (barred s typ)) (sym (name-is k refl refl)) ∙ one-colon s typ _ _ e ∙ ap (λ (t : Bool). t && same typ (type_to_string (type_of b (field b terms k 2)))) h)
+  by_front k s typ e h = sym (ap (same (barred s typ)) (sym (name_is k refl refl)) ∙ one_colon s typ _ _ e ∙ ap (λ (t : Bool). t && same typ (type_to_string (type_of b (field b terms k 2)))) h)

@@ -11,7 +11,7 @@ use Rattle.basics.specs.Text.{Text, same}
 use Rattle.book.specs.Book.{Book, terms, field}
 use Rattle.book.specs.RExpr.{Literal}
 use Rattle.book.specs.Decode.{literal_of, literal_at}
-use Rattle.book.proofs.Terms.{literal-kind, other-kind}
+use Rattle.book.proofs.Terms.{literal_kind, other_kind}
 use Rattle.solver_expr.specs.Lowering.{literal_name}
 use Rattle.rsolver.specs.LevelState.{literal_places, has_name}
 use Rattle.basics.proofs.Bool.{and-false}
@@ -29,21 +29,21 @@ module _ (b : Book) where
   no_one o e = rw e
 
   pub counts : (k : ℕ) {n : ℕ} → n ≡ field b terms k 0 → n ≡ 2 → 1 ≡ literal_count (literal_at b k ∷ [])
-  counts k e z = one (literal_at b k) (literal-kind b k (sym e ∙ z))
+  counts k e z = one (literal_at b k) (literal_kind b k (sym e ∙ z))
 
-  pub counts-not : (k : ℕ) {n : ℕ} → n ≡ field b terms k 0 → (n ≡ 2 → ⊥) → 0 ≡ literal_count (literal_at b k ∷ [])
+  pub counts_not : (k : ℕ) {n : ℕ} → n ≡ field b terms k 0 → (n ≡ 2 → ⊥) → 0 ≡ literal_count (literal_at b k ∷ [])
   unfolding literal_at
-  counts-not k e z = no_one (literal_at b k) (other-kind b (field b terms k 0) k (λ q. z (e ∙ q)))
+  counts_not k e z = no_one (literal_at b k) (other_kind b (field b terms k 0) k (λ q. z (e ∙ q)))
 
   -- ---- a term that declared a name
   pub undeclared : (name : Text) (ls : List ℕ) (k : ℕ) → get_or ls (literal_places + k) 0 ≡ 0 → false ≡ declares_name b name ls k
   unfolding declares_name
   undeclared name ls k z = rw (eq-eqb (get_or ls (literal_places + k) 0) 0 z)
 
-  pub no-literal : (name : Text) (ls : List ℕ) (k : ℕ) {n : ℕ} → n ≡ field b terms k 0 → (n ≡ 2 → ⊥) → false ≡ declares_name b name ls k
+  pub no_literal : (name : Text) (ls : List ℕ) (k : ℕ) {n : ℕ} → n ≡ field b terms k 0 → (n ≡ 2 → ⊥) → false ≡ declares_name b name ls k
   unfolding declares_name has_name literal_at
-  no-literal name ls k e z = rw (other-kind b (field b terms k 0) k (λ q. z (e ∙ q))) (sym (and-false (not (eqb (get_or ls (literal_places + k) 0) 0))))
+  no_literal name ls k e z = rw (other_kind b (field b terms k 0) k (λ q. z (e ∙ q))) (sym (and-false (not (eqb (get_or ls (literal_places + k) 0) 0))))
 
   pub by_name : (name : Text) (ls : List ℕ) (k : ℕ) {n : ℕ} {r : Bool} → (get_or ls (literal_places + k) 0 ≡ 0 → ⊥) → n ≡ field b terms k 0 → n ≡ 2 → r ≡ same name (literal_name (literal_of b k)) → r ≡ declares_name b name ls k
   unfolding declares_name has_name
-  by_name name ls k h e z q = rw (ne_eqb (get_or ls (literal_places + k) 0) 0 h, literal-kind b k (sym e ∙ z)) q
+  by_name name ls k h e z q = rw (ne_eqb (get_or ls (literal_places + k) 0) 0 h, literal_kind b k (sym e ∙ z)) q

@@ -28,22 +28,22 @@ module _ (name : Text) where
   nowhere (l ∷ ls) (n ∷ levels) (suc k) h = nowhere ls levels k (omega arith)
 
   -- the answer is a declared literal of that name
-  pub found-declares : (ls : List (Option Literal)) (levels : List ℕ) (k : ℕ) → first_named name ls levels ≡ some k → named_at name ls levels k ≡ true
+  pub found_declares : (ls : List (Option Literal)) (levels : List ℕ) (k : ℕ) → first_named name ls levels ≡ some k → named_at name ls levels k ≡ true
   unfolding first_named named_at
-  found-declares [] levels k e = absurd (none-ne-some _ e)
-  found-declares (l ∷ ls) [] k e = absurd (none-ne-some _ e)
-  found-declares (l ∷ ls) (n ∷ levels) k e = at (found-declares ls levels) (not (eqb n 0) && has_name name l) refl e
+  found_declares [] levels k e = absurd (none-ne-some _ e)
+  found_declares (l ∷ ls) [] k e = absurd (none-ne-some _ e)
+  found_declares (l ∷ ls) (n ∷ levels) k e = at (found_declares ls levels) (not (eqb n 0) && has_name name l) refl e
     where
       at : ((j : ℕ) → first_named name ls levels ≡ some j → named_at name ls levels j ≡ true) → (t : Bool) → (not (eqb n 0) && has_name name l) ≡ t → here t (first_named name ls levels) ≡ some k → named_at name (l ∷ ls) (n ∷ levels) k ≡ true
       at up true q f = rw (sym (some-injective 0 k f)) q
       at up false q f = let (j, r, i) = behind (first_named name ls levels) k f in rw i (up j r)
 
   -- none below it is
-  pub found-lowest : (ls : List (Option Literal)) (levels : List ℕ) (k : ℕ) → first_named name ls levels ≡ some k → (j : ℕ) → j < k → named_at name ls levels j ≡ false
+  pub found_lowest : (ls : List (Option Literal)) (levels : List ℕ) (k : ℕ) → first_named name ls levels ≡ some k → (j : ℕ) → j < k → named_at name ls levels j ≡ false
   unfolding first_named named_at
-  found-lowest [] levels k e j h = absurd (none-ne-some _ e)
-  found-lowest (l ∷ ls) [] k e j h = absurd (none-ne-some _ e)
-  found-lowest (l ∷ ls) (n ∷ levels) k e j h = at (found-lowest ls levels) (not (eqb n 0) && has_name name l) refl e j h
+  found_lowest [] levels k e j h = absurd (none-ne-some _ e)
+  found_lowest (l ∷ ls) [] k e j h = absurd (none-ne-some _ e)
+  found_lowest (l ∷ ls) (n ∷ levels) k e j h = at (found_lowest ls levels) (not (eqb n 0) && has_name name l) refl e j h
     where
       below : ((i : ℕ) → first_named name ls levels ≡ some i → (j : ℕ) → j < i → named_at name ls levels j ≡ false) → (not (eqb n 0) && has_name name l) ≡ false → (i : ℕ) → first_named name ls levels ≡ some i → k ≡ suc i
           → (j : ℕ) → j < k → named_at name (l ∷ ls) (n ∷ levels) j ≡ false
@@ -83,15 +83,15 @@ module _ (name : Text) where
       at up false none q i f (suc k) = up i k
 
   -- none exactly if no term is
-  pub none-exactly : (ls : List (Option Literal)) (levels : List ℕ) → (first_named name ls levels ≡ none → (k : ℕ) → named_at name ls levels k ≡ false) × (((k : ℕ) → named_at name ls levels k ≡ false) → first_named name ls levels ≡ none)
-  none-exactly ls levels = (none_named ls levels, none_is ls levels)
+  pub none_exactly : (ls : List (Option Literal)) (levels : List ℕ) → (first_named name ls levels ≡ none → (k : ℕ) → named_at name ls levels k ≡ false) × (((k : ℕ) → named_at name ls levels k ≡ false) → first_named name ls levels ≡ none)
+  none_exactly ls levels = (none_named ls levels, none_is ls levels)
 
   -- a name is declared exactly if one is found
-  pub found-named : (ls : List (Option Literal)) (levels : List ℕ) → name_in name ls levels ≡ is_some (first_named name ls levels)
+  pub found_named : (ls : List (Option Literal)) (levels : List ℕ) → name_in name ls levels ≡ is_some (first_named name ls levels)
   unfolding name_in first_named
-  found-named [] levels = refl
-  found-named (l ∷ ls) [] = refl
-  found-named (l ∷ ls) (n ∷ levels) = at (not (eqb n 0) && has_name name l) (first_named name ls levels) (found-named ls levels)
+  found_named [] levels = refl
+  found_named (l ∷ ls) [] = refl
+  found_named (l ∷ ls) (n ∷ levels) = at (not (eqb n 0) && has_name name l) (first_named name ls levels) (found_named ls levels)
     where
       at : (t : Bool) (r : Option ℕ) → name_in name ls levels ≡ is_some r → (t || name_in name ls levels) ≡ is_some (here t r)
       at true r e = refl
@@ -100,16 +100,16 @@ module _ (name : Text) where
 
   pub named_by : (ls : List (Option Literal)) (levels : List ℕ) {r : Bool} {v : Searched} → r ≡ is_found v → v ≡ search name ls levels → r ≡ name_in name ls levels
   unfolding search
-  named_by ls levels e f = e ∙ ap is_found f ∙ sym (found-named ls levels)
+  named_by ls levels e f = e ∙ ap is_found f ∙ sym (found_named ls levels)
 
   -- ---- the answer, and how far it went
-  pub search-found : (ls : List (Option Literal)) (levels : List ℕ) (k : ℕ) {g : ℕ} → named_at name ls levels k ≡ true → ((j : ℕ) → j < k → named_at name ls levels j ≡ false) → g ≡ literal_count (take (suc k) ls) → searched (some k) g ≡ search name ls levels
+  pub search_found : (ls : List (Option Literal)) (levels : List ℕ) (k : ℕ) {g : ℕ} → named_at name ls levels k ≡ true → ((j : ℕ) → j < k → named_at name ls levels j ≡ false) → g ≡ literal_count (take (suc k) ls) → searched (some k) g ≡ search name ls levels
   unfolding search gone_through
-  search-found ls levels k e h q = rw (first-is ls levels k e h, q)
+  search_found ls levels k e h q = rw (first-is ls levels k e h, q)
 
-  pub search-nothing : (ls : List (Option Literal)) (levels : List ℕ) {g : ℕ} → ((k : ℕ) → k < length ls → named_at name ls levels k ≡ false) → g ≡ literal_count ls → searched none g ≡ search name ls levels
+  pub search_nothing : (ls : List (Option Literal)) (levels : List ℕ) {g : ℕ} → ((k : ℕ) → k < length ls → named_at name ls levels k ≡ false) → g ≡ literal_count ls → searched none g ≡ search name ls levels
   unfolding search gone_through
-  search-nothing ls levels h q = rw (none_is ls levels (λ k. at k (dec_lt k (length ls))), q)
+  search_nothing ls levels h q = rw (none_is ls levels (λ k. at k (dec_lt k (length ls))), q)
     where
       at : (k : ℕ) → Dec (k < length ls) → named_at name ls levels k ≡ false
       at k (yes l) = h k l

@@ -11,16 +11,16 @@ use Rattle.basics.specs.Lists.{all}
 use Rattle.basics.proofs.Bool.{and_assoc, and-true}
 use Rattle.smt_engines.specs.SmtEngines.{CMD_PUSH}
 use Rattle.smt_engines.specs.Reader.{Stack, first, Reader, live, lost, pushes, asks, joins, kind, hear_kind, hear, hear_all}
-use Rattle.smt_engines.proofs.Hearing.{hear-append}
+use Rattle.smt_engines.proofs.Hearing.{hear_append}
 use Rattle.command_lines.specs.declared.kinds.LineKind.{LineKind}
 use Rattle.command_lines.specs.declared.kinds.LineKind.TheVariants.{Push, Pop, CheckSat, GetModel, Joins, Foreign}
 use Rattle.command_lines.specs.Lines.{line_at, line_end}
-use Rattle.command_lines.specs.CommandLines.{is_command, line_kind, heard_as, is_ours}
-use Rattle.command_lines.proofs.Reading.{heard-as, is-ours, is_push, push-by, joins-by, context-length, push-length}
+use Rattle.command_lines.specs.CommandLines.{is_command, line_kind, heard_as, is-ours}
+use Rattle.command_lines.proofs.Reading.{heard-as, is-ours, is_push, push_by, joins_by, context_length, push_length}
 use Rattle.live_lines.specs.LiveLines.{script_most, least_line, places, lines_at, stays, is_live, Lives}
 
-pub live-is : {st su : Stack} → live st ≡ live su → st ≡ su
-live-is {st} e = ap stack e
+pub live_is : {st su : Stack} → live st ≡ live su → st ≡ su
+live_is {st} e = ap stack e
   where
     stack : Reader → Stack
     stack (live s) = s
@@ -34,9 +34,9 @@ lost≢live e = true≢false (ap is_lost e)
     is_lost lost = true
 
 -- ---- one line behind others
-pub hear-snoc : (r : Reader) (a : List Text) (x : Text) → hear_all r (a ++ (x ∷ [])) ≡ hear (hear_all r a) x
+pub hear_snoc : (r : Reader) (a : List Text) (x : Text) → hear_all r (a ++ (x ∷ [])) ≡ hear (hear_all r a) x
 unfolding hear_all
-hear-snoc r a x = hear-append r a (x ∷ [])
+hear_snoc r a x = hear_append r a (x ∷ [])
 
 pub all_snoc : (a : List Text) (x : Text) → all (a ++ (x ∷ [])) is_live ≡ (all a is_live && is_live x)
 unfolding all
@@ -59,25 +59,25 @@ unfolding is_live stays heard_as is_push
 told x h = at (line_kind x) refl
   where
     at : (k : LineKind) → line_kind x ≡ k → Told x
-    at LineKind.Push e = push (push-by x ∙ ap is_push e) (heard-as x ∙ ap heard_as e)
+    at LineKind.Push e = push (push_by x ∙ ap is_push e) (heard-as x ∙ ap heard_as e)
     at LineKind.Pop e = absurd (false≢true (sym (ap stays (heard-as x ∙ ap heard_as e)) ∙ h))
     at LineKind.CheckSat e = absurd (false≢true (sym (ap stays (heard-as x ∙ ap heard_as e)) ∙ h))
     at LineKind.GetModel e = absurd (false≢true (sym (ap stays (heard-as x ∙ ap heard_as e)) ∙ h))
-    at LineKind.Joins e = joined (push-by x ∙ ap is_push e) (heard-as x ∙ ap heard_as e)
-    at LineKind.Foreign e = joined (push-by x ∙ ap is_push e) (heard-as x ∙ ap heard_as e)
+    at LineKind.Joins e = joined (push_by x ∙ ap is_push e) (heard-as x ∙ ap heard_as e)
+    at LineKind.Foreign e = joined (push_by x ∙ ap is_push e) (heard-as x ∙ ap heard_as e)
 
 -- a command of ours that lives is long enough
-pub live-length : (x : Text) → is_command x ≡ true → is_live x ≡ true → least_line ≤ suc (length x)
-unfolding is_ours is_live stays heard_as is_push
-live-length x o h = at (line_kind x) refl
+pub live_length : (x : Text) → is_command x ≡ true → is_live x ≡ true → least_line ≤ suc (length x)
+unfolding is-ours is_live stays heard_as is_push
+live_length x o h = at (line_kind x) refl
   where
     at : (k : LineKind) → line_kind x ≡ k → least_line ≤ suc (length x)
-    at LineKind.Push e = omega (arith, push-length x (push-by x ∙ ap is_push e))
+    at LineKind.Push e = omega (arith, push_length x (push_by x ∙ ap is_push e))
     at LineKind.Pop e = absurd (false≢true (sym (ap stays (heard-as x ∙ ap heard_as e)) ∙ h))
     at LineKind.CheckSat e = absurd (false≢true (sym (ap stays (heard-as x ∙ ap heard_as e)) ∙ h))
     at LineKind.GetModel e = absurd (false≢true (sym (ap stays (heard-as x ∙ ap heard_as e)) ∙ h))
-    at LineKind.Joins e = omega (arith, context-length x (joins-by x e))
-    at LineKind.Foreign e = absurd (true≢false (sym o ∙ is-ours x ∙ ap is_ours e))
+    at LineKind.Joins e = omega (arith, context_length x (joins_by x e))
+    at LineKind.Foreign e = absurd (true≢false (sym o ∙ is-ours x ∙ ap is-ours e))
 
 -- ---- one live line more
 module _ (s : Text) (starts : List ℕ) (n at : ℕ) where
@@ -88,25 +88,25 @@ module _ (s : Text) (starts : List ℕ) (n at : ℕ) where
       let named : lines_at s (take (suc n) (set starts n at)) ≡ lines_at s (take n starts) ++ (line_at s at ∷ []) =
       ap (lines_at s) (take-suc-set starts n at room) ∙ lines_snoc s (take n starts) at in
       record {
-        heard = rw (named, hear-snoc (live (first [])) (lines_at s (take n starts)) (line_at s at), l.heard) e;
+        heard = rw (named, hear_snoc (live (first [])) (lines_at s (take n starts)) (line_at s at), l.heard) e;
         lines = rw (named, all_snoc (lines_at s (take n starts)) (line_at s at), l.lines) h;
         held = omega (arith, length-set starts n at);
         few = omega (arith, l.few, long);
       }
 
   -- a question changes nothing
-  pub lives-same : (k : LineKind) → line_kind (line_at s at) ≡ k → heard_as k ≡ asks → (st su : Stack) → Lives s starts n at st → hear (live st) (line_at s at) ≡ live su
+  pub lives_same : (k : LineKind) → line_kind (line_at s at) ≡ k → heard_as k ≡ asks → (st su : Stack) → Lives s starts n at st → hear (live st) (line_at s at) ≡ live su
       → Lives s starts n (suc (line_end s at)) su
   unfolding line_end hear hear_kind
-  lives-same k q a st su l e =
-      let same-stack : live st ≡ live su = rw (heard-as (line_at s at) ∙ ap heard_as q ∙ a) at e in
-      record { heard = l.heard ∙ same-stack; lines = l.lines; held = l.held; few = omega (arith, l.few) }
+  lives_same k q a st su l e =
+      let same_stack : live st ≡ live su = rw (heard-as (line_at s at) ∙ ap heard_as q ∙ a) at e in
+      record { heard = l.heard ∙ same_stack; lines = l.lines; held = l.held; few = omega (arith, l.few) }
 
 -- nothing is read, nothing lives
-pub lives-none : (s : Text) (starts : List ℕ) → Lives s starts 0 0 (first [])
+pub lives_none : (s : Text) (starts : List ℕ) → Lives s starts 0 0 (first [])
 unfolding lines_at hear_all all
-lives-none s starts = record { heard = refl; lines = refl; held = omega arith; few = omega arith }
+lives_none s starts = record { heard = refl; lines = refl; held = omega arith; few = omega arith }
 
 -- there is a place for one more: 65,536 bytes hold 7,281 lines of nine
-pub lives-room : {s : Text} {starts : List ℕ} {n at : ℕ} {st : Stack} → Lives s starts n at st → at < script_most → n < places
-lives-room l h = omega (arith, l.few)
+pub lives_room : {s : Text} {starts : List ℕ} {n at : ℕ} {st : Stack} → Lives s starts n at st → at < script_most → n < places
+lives_room l h = omega (arith, l.few)

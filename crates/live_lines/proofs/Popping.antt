@@ -9,7 +9,7 @@ use lib.ListN.{length, get_or, take}
 use lib.Seq.{take-suc}
 use Rattle.basics.specs.Text.{Text, same}
 use Rattle.basics.specs.Lists.{all}
-use Rattle.basics.proofs.Bool.{and_both, both-and}
+use Rattle.basics.proofs.Bool.{and_both, both_and}
 use Rattle.smt_engines.specs.SmtEngines.{CMD_PUSH}
 use Rattle.smt_engines.specs.Reader.{Stack, first, over, Reader, live, lost, join, dropped, hear_kind, hear, hear_all}
 use Rattle.command_lines.specs.declared.kinds.LineKind.TheVariants.{Pop}
@@ -17,29 +17,29 @@ use Rattle.command_lines.specs.Lines.{line_at, line_end}
 use Rattle.command_lines.specs.CommandLines.{line_kind, heard_as}
 use Rattle.command_lines.proofs.Reading.{heard-as}
 use Rattle.live_lines.specs.LiveLines.{lines_at, is_live, Lives, last_push}
-use Rattle.live_lines.proofs.Living.{live-is, lost≢live, hear-snoc, all_snoc, lines_snoc, Told, push, joined, told}
+use Rattle.live_lines.proofs.Living.{live_is, lost≢live, hear_snoc, all_snoc, lines_snoc, Told, push, joined, told}
 
-dropped-join : (st : Stack) (ls : List Text) → dropped (join st ls) ≡ dropped st
+dropped_join : (st : Stack) (ls : List Text) → dropped (join st ls) ≡ dropped st
 unfolding dropped join
-dropped-join (first l) ls = refl
-dropped-join (over l st) ls = refl
+dropped_join (first l) ls = refl
+dropped_join (over l st) ls = refl
 
 -- fewer starts
-all-fewer : (s : Text) (starts : List ℕ) (m n : ℕ) → m ≤ n → all (lines_at s (take n starts)) is_live ≡ true → all (lines_at s (take m starts)) is_live ≡ true
+all_fewer : (s : Text) (starts : List ℕ) (m n : ℕ) → m ≤ n → all (lines_at s (take n starts)) is_live ≡ true → all (lines_at s (take m starts)) is_live ≡ true
 unfolding all lines_at
-all-fewer s [] zero n h e = refl
-all-fewer s [] (suc m) n h e = refl
-all-fewer s (x ∷ starts) zero n h e = refl
-all-fewer s (x ∷ starts) (suc m) zero h e = absurd (omega arith)
-all-fewer s (x ∷ starts) (suc m) (suc n) h e =
+all_fewer s [] zero n h e = refl
+all_fewer s [] (suc m) n h e = refl
+all_fewer s (x ∷ starts) zero n h e = refl
+all_fewer s (x ∷ starts) (suc m) zero h e = absurd (omega arith)
+all_fewer s (x ∷ starts) (suc m) (suc n) h e =
     let r = and_both (is_live (line_at s x)) (all (map (line_at s) (take n starts)) is_live) e in
-    both-and r.0 (all-fewer s starts m n (omega arith) r.1)
+    both_and r.0 (all_fewer s starts m n (omega arith) r.1)
 
 module _ (s : Text) (starts : List ℕ) where
-  pub last-below : (n : ℕ) → last_push s starts n ≤ n
+  pub last_below : (n : ℕ) → last_push s starts n ≤ n
   unfolding last_push
-  last-below zero = omega arith
-  last-below (suc k) = at (same (line_at s (get_or starts k 0)) CMD_PUSH) (last-below k)
+  last_below zero = omega arith
+  last_below (suc k) = at (same (line_at s (get_or starts k 0)) CMD_PUSH) (last_below k)
     where
       at : (x : Bool) → last_push s starts k ≤ k → (if x then k else last_push s starts k) ≤ suc k
       at true h = omega arith
@@ -51,12 +51,12 @@ module _ (s : Text) (starts : List ℕ) where
 
   back : (n : ℕ) → n ≤ length starts → all (lines_at s (take n starts)) is_live ≡ true → Back n
   unfolding Back hear_all hear hear_kind dropped lines_at last_push
-  back zero h a st su e d = absurd (lost≢live (ap dropped (live-is e) ∙ d))
+  back zero h a st su e d = absurd (lost≢live (ap dropped (live_is e) ∙ d))
   back (suc k) h a st su e d =
       let x = line_at s (get_or starts k 0) in
       let apart : lines_at s (take (suc k) starts) ≡ lines_at s (take k starts) ++ (x ∷ []) = ap (lines_at s) (take-suc starts k 0 (omega arith)) ∙ lines_snoc s (take k starts) (get_or starts k 0) in
       let both = and_both (all (lines_at s (take k starts)) is_live) (is_live x) (sym (all_snoc (lines_at s (take k starts)) x) ∙ ap {B = Bool} (λ ls. all ls is_live) (sym apart) ∙ a) in
-      let heard : hear (hear_all (live (first [])) (lines_at s (take k starts))) x ≡ live st = sym (hear-snoc (live (first [])) (lines_at s (take k starts)) x) ∙ ap (hear_all (live (first []))) (sym apart) ∙ e in
+      let heard : hear (hear_all (live (first [])) (lines_at s (take k starts))) x ≡ live st = sym (hear_snoc (live (first [])) (lines_at s (take k starts)) x) ∙ ap (hear_all (live (first []))) (sym apart) ∙ e in
       at (hear_all (live (first [])) (lines_at s (take k starts))) refl (told x both.1) heard (back k (omega arith) both.0)
     where
       at : (r : Reader) → hear_all (live (first [])) (lines_at s (take k starts)) ≡ r → Told (line_at s (get_or starts k 0)) → hear r (line_at s (get_or starts k 0)) ≡ live st → Back k
@@ -64,27 +64,27 @@ module _ (s : Text) (starts : List ℕ) where
       at lost q t f rec = absurd (lost≢live f)
       at (live sv) q (push p e) f rec =
           let f' : live (over [] sv) ≡ live st = rw e at f in
-          rw p (q ∙ ap dropped (live-is f') ∙ d)
+          rw p (q ∙ ap dropped (live_is f') ∙ d)
       at (live sv) q (joined p e) f rec =
           let f' : live (join sv (line_at s (get_or starts k 0) ∷ [])) ≡ live st = rw e at f in
-          rw p (rec sv su q (sym (dropped-join sv (line_at s (get_or starts k 0) ∷ [])) ∙ ap dropped (live-is f') ∙ d))
+          rw p (rec sv su q (sym (dropped_join sv (line_at s (get_or starts k 0) ∷ [])) ∙ ap dropped (live_is f') ∙ d))
 
-  pub lives-pop : (n at : ℕ) → line_kind (line_at s at) ≡ Pop → (st su : Stack) → Lives s starts n at st → hear (live st) (line_at s at) ≡ live su
+  pub lives_pop : (n at : ℕ) → line_kind (line_at s at) ≡ Pop → (st su : Stack) → Lives s starts n at st → hear (live st) (line_at s at) ≡ live su
       → Lives s starts (last_push s starts n) (suc (line_end s at)) su
   unfolding Back line_end hear hear_kind heard_as
-  lives-pop n at q st su l e =
+  lives_pop n at q st su l e =
       let d : dropped st ≡ live su = rw (heard-as (line_at s at) ∙ ap heard_as q) at e in
       record {
         heard = back n l.held l.lines st su l.heard d;
-        lines = all-fewer s starts (last_push s starts n) n (last-below n) l.lines;
-        held = omega (arith, l.held, last-below n);
-        few = omega (arith, l.few, last-below n);
+        lines = all_fewer s starts (last_push s starts n) n (last_below n) l.lines;
+        held = omega (arith, l.held, last_below n);
+        few = omega (arith, l.few, last_below n);
       }
 
   -- ---- the loop that looks for it
-  pub back-here : (k : ℕ) {m a : ℕ} {r : Bool} → m ≡ suc k → a ≡ get_or starts k 0 → r ≡ same (line_at s a) CMD_PUSH → r ≡ true → last_push s starts m ≡ k
+  pub back_here : (k : ℕ) {m a : ℕ} {r : Bool} → m ≡ suc k → a ≡ get_or starts k 0 → r ≡ same (line_at s a) CMD_PUSH → r ≡ true → last_push s starts m ≡ k
   unfolding last_push
-  back-here k e z q t = rw (e, ← z, sym q ∙ t)
+  back_here k e z q t = rw (e, ← z, sym q ∙ t)
 
   pub back_more : (k : ℕ) {m a : ℕ} {r : Bool} → m ≡ suc k → a ≡ get_or starts k 0 → r ≡ same (line_at s a) CMD_PUSH → r ≡ false → last_push s starts m ≡ last_push s starts k
   unfolding last_push

@@ -21,6 +21,6 @@ module _ (b : Book) (P : Promise b) (s : Session) (v : is_session (program b) s 
   unfolding present session_at
   node-levels = ap (λ (x : Session). x.levels) (known b P s v o).is
 
-  pub node-clear : (state_at b s.node).missing ≡ false
+  pub node_clear : (state_at b s.node).missing ≡ false
   unfolding present
-  node-clear = (known b P s v o).fits.clear
+  node_clear = (known b P s v o).fits.clear

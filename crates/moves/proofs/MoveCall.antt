@@ -30,8 +30,8 @@ use Rattle.solvers.specs.Calls.{owes, is_session, Host, fitting, move_to, ask_fo
 use Rattle.solvers.specs.Rule.{standing, goal_state, move_commands, question_commands, present, session_at}
 use Rattle.solvers.specs.ByBook.{move_by_book, ask_by_book, call_by_book}
 use Rattle.solvers.specs.Returned.{lent, Given}
-use Rattle.solvers.proofs.ByBook.{by-book}
-use Rattle.solvers.proofs.Returned.{given-refused, text-long, written}
+use Rattle.solvers.proofs.ByBook.{by_book}
+use Rattle.solvers.proofs.Returned.{given_refused, text_long, written}
 use Rattle.moves.specs.Moves.{Measured, Arrived, ask_commands, move_known, move_in, ask_known, ask_in}
 
 module _ (b : Book) (s : Session) (node : ℕ) where
@@ -46,7 +46,7 @@ module _ (b : Book) (s : Session) (node : ℕ) where
   module _ (t : List ℕ) {m : Progress} (M : Measured (move_commands (program b) s.node node) (state_at b node) m) where
     pub lacking : {r : Called} → m.missing ≡ true → r ≡ record { answer = answer.Refused MissingAxiom; session = s } → Given (move_known b s.node (lent [] t []) node) s r t t [] []
     unfolding move_known refuse ◌>>◌ number
-    lacking h q = rw q (given-refused (move_known b s.node (lent [] t []) node) MissingAxiom s t [] (rw (sym M.missing ∙ h)))
+    lacking h q = rw q (given_refused (move_known b s.node (lent [] t []) node) MissingAxiom s t [] (rw (sym M.missing ∙ h)))
 
     fitted : m.missing ≡ false → move_known b s.node (lent [] t []) node ≡ fitting (lent [] t []) left
     unfolding move_known refuse ◌>>◌ left
@@ -54,7 +54,7 @@ module _ (b : Book) (s : Session) (node : ℕ) where
 
     pub too_long : {r : Called} → m.missing ≡ false → length t < m.at → r ≡ record { answer = answer.Refused BufferTooShort; session = s } → Given (move_known b s.node (lent [] t []) node) s r t t [] []
     unfolding text_of left
-    too_long h l q = rw (fitted h) (text-long s left t [] M.counted l q)
+    too_long h l q = rw (fitted h) (text_long s left t [] M.counted l q)
 
     pub done : {q : Session} {t' : List ℕ} → m.missing ≡ false → m.at ≤ length t → length t < MOST → Arrived (move_commands (program b) s.node node) (session_at b (present node 0 Nothing)) q t t'
         → Given (move_known b s.node (lent [] t []) node) s (record { answer = answer.Written m.at; session = q }) t t' [] []
@@ -63,27 +63,27 @@ module _ (b : Book) (s : Session) (node : ℕ) where
 
   -- in a book that passed its test
   module _ (t : List ℕ) where
-    pub not-here : {r : Called} → size b contexts < node → r ≡ record { answer = answer.Refused NotInBook; session = s } → Given (move_in b s (lent [] t []) node) s r t t [] []
+    pub not_here : {r : Called} → size b contexts < node → r ≡ record { answer = answer.Refused NotInBook; session = s } → Given (move_in b s (lent [] t []) node) s r t t [] []
     unfolding move_in refuse ◌>>◌ number
-    not-here h q = rw q (given-refused (move_in b s (lent [] t []) node) NotInBook s t [] (rw (lt-ltb (size b contexts) node h)))
+    not_here h q = rw q (given_refused (move_in b s (lent [] t []) node) NotInBook s t [] (rw (lt-ltb (size b contexts) node h)))
 
     module _ (here : node ≤ size b contexts) where
-      pub not-session : {r : Called} {x : Bool} → x ≡ is_session (program b) s → x ≡ false → r ≡ record { answer = answer.Refused NoSession; session = s } → Given (move_in b s (lent [] t []) node) s r t t [] []
+      pub not_session : {r : Called} {x : Bool} → x ≡ is_session (program b) s → x ≡ false → r ≡ record { answer = answer.Refused NoSession; session = s } → Given (move_in b s (lent [] t []) node) s r t t [] []
       unfolding move_in refuse ◌>>◌ number
-      not-session e f q = rw q (given-refused (move_in b s (lent [] t []) node) NoSession s t [] (rw (le-ltb (size b contexts) node here, sym e ∙ f)))
+      not_session e f q = rw q (given_refused (move_in b s (lent [] t []) node) NoSession s t [] (rw (le-ltb (size b contexts) node here, sym e ∙ f)))
 
       module _ {x : Bool} (e : x ≡ is_session (program b) s) (f : x ≡ true) where
-        question-open : {r : Called} → owes s.owed Nothing ≡ false → r ≡ record { answer = answer.Refused QuestionOpen; session = s } → Given (move_in b s (lent [] t []) node) s r t t [] []
+        question_open : {r : Called} → owes s.owed Nothing ≡ false → r ≡ record { answer = answer.Refused QuestionOpen; session = s } → Given (move_in b s (lent [] t []) node) s r t t [] []
         unfolding move_in refuse ◌>>◌ number
-        question-open h q = rw q (given-refused (move_in b s (lent [] t []) node) QuestionOpen s t [] (rw (le-ltb (size b contexts) node here, sym e ∙ f, h)))
+        question_open h q = rw q (given_refused (move_in b s (lent [] t []) node) QuestionOpen s t [] (rw (le-ltb (size b contexts) node here, sym e ∙ f, h)))
 
         pub reply-owed : {r : Called} → s.owed ≡ Reply → r ≡ record { answer = answer.Refused QuestionOpen; session = s } → Given (move_in b s (lent [] t []) node) s r t t [] []
         unfolding owes
-        reply-owed h q = question-open (rw h) q
+        reply-owed h q = question_open (rw h) q
 
         pub model-owed : {r : Called} → s.owed ≡ Model → r ≡ record { answer = answer.Refused QuestionOpen; session = s } → Given (move_in b s (lent [] t []) node) s r t t [] []
         unfolding owes
-        model-owed h q = question-open (rw h) q
+        model-owed h q = question_open (rw h) q
 
         known : s.owed ≡ Nothing → move_in b s (lent [] t []) node ≡ move_known b s.node (lent [] t []) node
         unfolding move_in refuse ◌>>◌ owes
@@ -95,4 +95,4 @@ module _ (b : Book) (s : Session) (node : ℕ) where
   -- the whole call
   pub is_call : (scratch t : List ℕ) → call b s (move_to (lent scratch t []) node) ≡ (ready (length scratch) b >> move_in b s (lent [] t []) node)
   unfolding call_by_book move_by_book move_in move_known fitting
-  is_call scratch t = by-book b s (move_to (lent scratch t []) node)
+  is_call scratch t = by_book b s (move_to (lent scratch t []) node)

@@ -24,8 +24,8 @@ Nowhere t xs = (k : ℕ) → k < length xs → same (get_or xs k []) t ≡ false
 at_front : {t x : Text} (xs : List Text) → same x t ≡ true → First t (x ∷ xs) 0
 at_front xs e = record { below = omega arith; here = e; before = λ k h. absurd (omega arith) }
 
-behind-front : {t x : Text} {xs : List Text} {n : ℕ} → same x t ≡ false → First t xs n → First t (x ∷ xs) (suc n)
-behind-front {t} {x} {xs} {n} e f = record { below = omega (arith, f.below); here = f.here; before = before }
+behind_front : {t x : Text} {xs : List Text} {n : ℕ} → same x t ≡ false → First t xs n → First t (x ∷ xs) (suc n)
+behind_front {t} {x} {xs} {n} e f = record { below = omega (arith, f.below); here = f.here; before = before }
   where
     before : (k : ℕ) → k < suc n → same (get_or (x ∷ xs) k []) t ≡ false
     before zero h = e
@@ -39,16 +39,16 @@ module _ (t : Text) where
     where
       behind : ((m : ℕ) → position t xs ≡ some m → First t xs m) → same x t ≡ false → (o : Option ℕ) → position t xs ≡ o → later o ≡ some n → First t (x ∷ xs) n
       behind up q none p f = absurd (none-ne-some _ f)
-      behind up q (some m) p f = rw (sym (some-injective (suc m) n f)) (behind-front q (up m p))
+      behind up q (some m) p f = rw (sym (some-injective (suc m) n f)) (behind_front q (up m p))
 
       at : ((m : ℕ) → position t xs ≡ some m → First t xs m) → (s : Bool) → same x t ≡ s → (if s then some 0 else later (position t xs)) ≡ some n → First t (x ∷ xs) n
       at up true q f = rw (sym (some-injective 0 n f)) (at_front xs q)
       at up false q f = behind up q (position t xs) refl f
 
-  pub position-none : (xs : List Text) → position t xs ≡ none → Nowhere t xs
+  pub position_none : (xs : List Text) → position t xs ≡ none → Nowhere t xs
   unfolding position later
-  position-none [] e k h = absurd (omega arith)
-  position-none (x ∷ xs) e k h = at (position-none xs) (same x t) refl e k h
+  position_none [] e k h = absurd (omega arith)
+  position_none (x ∷ xs) e k h = at (position_none xs) (same x t) refl e k h
     where
       behind : (position t xs ≡ none → Nowhere t xs) → same x t ≡ false → (o : Option ℕ) → position t xs ≡ o → later o ≡ none → Nowhere t (x ∷ xs)
       behind up q none p f zero h = q
@@ -60,14 +60,14 @@ module _ (t : Text) where
       at up false q f = behind up q (position t xs) refl f
 
   -- ---- and the other way
-  pub some-position : (xs : List Text) (n : ℕ) → First t xs n → position t xs ≡ some n
+  pub some_position : (xs : List Text) (n : ℕ) → First t xs n → position t xs ≡ some n
   unfolding position later
-  some-position [] n f = absurd (omega (arith, f.below))
-  some-position (x ∷ xs) zero f = rw f.here
-  some-position (x ∷ xs) (suc n) f =
-      rw (f.before 0 (omega arith), some-position xs n (record { below = omega (arith, f.below); here = f.here; before = λ k h. f.before (suc k) (omega arith) }))
+  some_position [] n f = absurd (omega (arith, f.below))
+  some_position (x ∷ xs) zero f = rw f.here
+  some_position (x ∷ xs) (suc n) f =
+      rw (f.before 0 (omega arith), some_position xs n (record { below = omega (arith, f.below); here = f.here; before = λ k h. f.before (suc k) (omega arith) }))
 
-  pub none-position : (xs : List Text) → Nowhere t xs → position t xs ≡ none
+  pub none_position : (xs : List Text) → Nowhere t xs → position t xs ≡ none
   unfolding position later
-  none-position [] h = refl
-  none-position (x ∷ xs) h = rw (h 0 (omega arith), none-position xs (λ k l. h (suc k) (omega arith)))
+  none_position [] h = refl
+  none_position (x ∷ xs) h = rw (h 0 (omega arith), none_position xs (λ k l. h (suc k) (omega arith)))

@@ -10,38 +10,38 @@ use lib.Seq.{take_at}
 use Rattle.basics.specs.Text.{ascii}
 use Rattle.basics.specs.Basics.{nat2_string}
 use Rattle.basics.specs.Write.{Wrote}
-use Rattle.basics.proofs.Digits.{nat-more, nat-last}
-use Rattle.basics.proofs.Laws.{overlay-fits, length-overlay}
+use Rattle.basics.proofs.Digits.{nat_more, nat_last}
+use Rattle.basics.proofs.Laws.{overlay_fits, length_overlay}
 use Rattle.book.specs.Book.{depth_most}
 use Rattle.name_search.specs.Probe.{probe_name, probe_most}
 use Rattle.name_search.specs.ProbeText.{IsProbeName}
 use Rattle.name_search.specs.declared.probe.ProbeName.{ProbeName}
 
-pub two-parts : (depth : ℕ) → ascii "probe%" ++ nat2_string depth ≡ probe_name depth
+pub two_parts : (depth : ℕ) → ascii "probe%" ++ nat2_string depth ≡ probe_name depth
 unfolding probe_name
-two-parts depth = refl
+two_parts depth = refl
 
 -- as many digits as the power of ten says at most
 digits : (k n : ℕ) → n < 10 ^ suc k → length (nat2_string n) ≤ suc k
-digits zero n h = omega (arith, ap length (nat-last n h))
+digits zero n h = omega (arith, ap length (nat_last n h))
 digits (suc k) n h = at (dec_lt n 10) (digits k (n / 10))
   where
     at : Dec (n < 10) → (n / 10 < 10 ^ suc k → length (nat2_string (n / 10)) ≤ suc k) → length (nat2_string n) ≤ suc (suc k)
-    at (yes l) up = omega (arith, ap length (nat-last n l))
+    at (yes l) up = omega (arith, ap length (nat_last n l))
     at (no l) up =
         let e : 10 ^ suc (suc k) ≡ 10 * 10 ^ suc k = simp unary_clauses (omega arith) in
-        omega (arith, simp length-append at (ap length (nat-more n (omega arith))), up (omega (arith, h, e)))
+        omega (arith, simp length-append at (ap length (nat_more n (omega arith))), up (omega (arith, h, e)))
 
-probe-short : (depth : ℕ) → depth ≤ depth_most → length (probe_name depth) ≤ probe_most
-probe-short depth h = omega (arith, ap length (sym (two-parts depth)), length-append (ascii "probe%") (nat2_string depth), digits 2 depth (omega arith))
+probe_short : (depth : ℕ) → depth ≤ depth_most → length (probe_name depth) ≤ probe_most
+probe_short depth h = omega (arith, ap length (sym (two_parts depth)), length-append (ascii "probe%") (nat2_string depth), digits 2 depth (omega arith))
 
-pub probe-told : (depth : ℕ) {o : List ℕ} (r : ProbeName) → depth ≤ depth_most → length o ≡ probe_most → Wrote (probe_name depth) o r.text r.length → IsProbeName depth r
-probe-told depth {o} r h l w =
-    let fits : length (probe_name depth) ≤ length o = omega (arith, probe-short depth h) in
-    let counted : r.length ≡ length (probe_name depth) = omega (arith, w.counted, probe-short depth h) in
-    let stands : r.text ≡ probe_name depth ++ drop (length (probe_name depth)) o = w.shown ∙ overlay-fits (probe_name depth) o fits in
+pub probe_told : (depth : ℕ) {o : List ℕ} (r : ProbeName) → depth ≤ depth_most → length o ≡ probe_most → Wrote (probe_name depth) o r.text r.length → IsProbeName depth r
+probe_told depth {o} r h l w =
+    let fits : length (probe_name depth) ≤ length o = omega (arith, probe_short depth h) in
+    let counted : r.length ≡ length (probe_name depth) = omega (arith, w.counted, probe_short depth h) in
+    let stands : r.text ≡ probe_name depth ++ drop (length (probe_name depth)) o = w.shown ∙ overlay_fits (probe_name depth) o fits in
     record {
       is = ap (take r.length) stands ∙ take_at (probe_name depth) _ r.length (sym counted);
-      within = omega (arith, ap length w.shown, length-overlay (probe_name depth) o);
-      short = omega (arith, counted, probe-short depth h);
+      within = omega (arith, ap length w.shown, length_overlay (probe_name depth) o);
+      short = omega (arith, counted, probe_short depth h);
     }

@@ -9,10 +9,10 @@ use mathlib.Core.Option.{Option, none, some}
 use lib.ListN.{length, get_or}
 use Rattle.basics.specs.Text.{Text, same}
 use Rattle.basics.proofs.Counting.{length_up, up_at}
-use Rattle.basics.proofs.Texts.{same_refl, same-eq}
+use Rattle.basics.proofs.Texts.{same_refl, same_eq}
 use Rattle.book.specs.Book.{Book, names, size, name_text}
 use Rattle.name_search.specs.Names.{later, position, texts, first_name, number_or}
-use Rattle.name_search.proofs.Position.{First, position_some, position-none, some-position, none-position}
+use Rattle.name_search.proofs.Position.{First, position_some, position_none, some_position, none_position}
 
 differ : {x t : Text} → same x t ≡ false → ¬ (x ≡ t)
 differ {x} {t} e q = false≢true (sym e ∙ rw q (same_refl t))
@@ -28,26 +28,26 @@ unfolding or_later
 none_before none = refl
 none_before (some m) = ap some (omega arith)
 
-one-before : (p : Option ℕ) (k : ℕ) (o : Option ℕ) → later (or_later p k o) ≡ or_later (later p) (suc k) o
+one_before : (p : Option ℕ) (k : ℕ) (o : Option ℕ) → later (or_later p k o) ≡ or_later (later p) (suc k) o
 unfolding or_later later
-one-before (some n) k o = refl
-one-before none k none = refl
-one-before none k (some m) = ap some (omega arith)
+one_before (some n) k o = refl
+one_before none k none = refl
+one_before none k (some m) = ap some (omega arith)
 
-pub position-append : (t : Text) (xs ys : List Text) → position t (xs ++ ys) ≡ or_later (position t xs) (length xs) (position t ys)
+pub position_append : (t : Text) (xs ys : List Text) → position t (xs ++ ys) ≡ or_later (position t xs) (length xs) (position t ys)
 unfolding position later or_later
-position-append t [] ys = none_before (position t ys)
-position-append t (x ∷ xs) ys = at (same x t) (position-append t xs ys)
+position_append t [] ys = none_before (position t ys)
+position_append t (x ∷ xs) ys = at (same x t) (position_append t xs ys)
   where
     at : (s : Bool) → position t (xs ++ ys) ≡ or_later (position t xs) (length xs) (position t ys)
         → (if s then some 0 else later (position t (xs ++ ys))) ≡ or_later (if s then some 0 else later (position t xs)) (suc (length xs)) (position t ys)
     at true e = refl
-    at false e = ap later e ∙ one-before (position t xs) (length xs) (position t ys)
+    at false e = ap later e ∙ one_before (position t xs) (length xs) (position t ys)
 
 module _ (b : Book) where
-  pub texts-length : length (texts b) ≡ size b names
+  pub texts_length : length (texts b) ≡ size b names
   unfolding texts
-  texts-length = length_up (name_text b) 0 (size b names)
+  texts_length = length_up (name_text b) 0 (size b names)
 
   text_at : (n : ℕ) → n < size b names → get_or (texts b) n [] ≡ name_text b n
   unfolding texts
@@ -59,31 +59,31 @@ module _ (b : Book) where
     first n e = position_some t (texts b) n e
 
     pub first_below : (n : ℕ) → first_name b t ≡ some n → n < size b names
-    first_below n e = omega (arith, (first n e).below, texts-length)
+    first_below n e = omega (arith, (first n e).below, texts_length)
 
     pub first-is : (n : ℕ) → first_name b t ≡ some n → name_text b n ≡ t
-    first-is n e = sym (text_at n (first_below n e)) ∙ same-eq _ t (first n e).here
+    first-is n e = sym (text_at n (first_below n e)) ∙ same_eq _ t (first n e).here
 
     -- what the number means, for the reader: no earlier name is the text, and where there is none no name is (nothing cites these two)
-    pub first-least : (n k : ℕ) → first_name b t ≡ some n → k < n → ¬ (name_text b k ≡ t)
-    first-least n k e h q = differ ((first n e).before k h) (text_at k (omega (arith, first_below n e)) ∙ q)
+    pub first_least : (n k : ℕ) → first_name b t ≡ some n → k < n → ¬ (name_text b k ≡ t)
+    first_least n k e h q = differ ((first n e).before k h) (text_at k (omega (arith, first_below n e)) ∙ q)
 
-    pub first-none : (k : ℕ) → first_name b t ≡ none → k < size b names → ¬ (name_text b k ≡ t)
+    pub first_none : (k : ℕ) → first_name b t ≡ none → k < size b names → ¬ (name_text b k ≡ t)
     unfolding first_name
-    first-none k e h q = differ (position-none t (texts b) e k (omega (arith, texts-length))) (text_at k h ∙ q)
+    first_none k e h q = differ (position_none t (texts b) e k (omega (arith, texts_length))) (text_at k h ∙ q)
 
     -- ---- from the number that a search answers to the two cases
-    pub number-found : {r : ℕ} → r ≡ number_or (size b names) (first_name b t) → r < size b names → first_name b t ≡ some r
+    pub number_found : {r : ℕ} → r ≡ number_or (size b names) (first_name b t) → r < size b names → first_name b t ≡ some r
     unfolding number_or
-    number-found {r} e h = at (first_name b t) e
+    number_found {r} e h = at (first_name b t) e
       where
         at : (o : Option ℕ) → r ≡ number_or (size b names) o → o ≡ some r
         at none q = absurd (omega arith)
         at (some n) q = ap some (sym q)
 
-    pub number-none : {r : ℕ} → r ≡ number_or (size b names) (first_name b t) → size b names ≤ r → first_name b t ≡ none
+    pub number_none : {r : ℕ} → r ≡ number_or (size b names) (first_name b t) → size b names ≤ r → first_name b t ≡ none
     unfolding number_or
-    number-none {r} e h = at (first_name b t) refl e
+    number_none {r} e h = at (first_name b t) refl e
       where
         at : (o : Option ℕ) → first_name b t ≡ o → r ≡ number_or (size b names) o → o ≡ none
         at none p q = refl
@@ -95,16 +95,16 @@ module _ (b : Book) where
 
     pub found_here : (n : ℕ) {r : Bool} → n < size b names → r ≡ same (name_text b n) t → r ≡ true → NoneBefore n → n ≡ number_or (size b names) (first_name b t)
     unfolding first_name number_or
-    found_here n h e y before = rw (some-position t (texts b) n found)
+    found_here n h e y before = rw (some_position t (texts b) n found)
       where
         found : First t (texts b) n
         found =
             record {
-              below = omega (arith, texts-length);
+              below = omega (arith, texts_length);
               here = rw (text_at n h) (sym e ∙ y);
               before = λ k l. rw (text_at k (omega arith)) (before k l);
             }
 
     pub found_nowhere : (n all : ℕ) → all ≡ size b names → all ≤ n → NoneBefore n → all ≡ number_or (size b names) (first_name b t)
     unfolding first_name number_or
-    found_nowhere n all e h before = rw (none-position t (texts b) (λ k l. rw (text_at k (omega (arith, texts-length))) (before k (omega (arith, texts-length))))) e
+    found_nowhere n all e h before = rw (none_position t (texts b) (λ k l. rw (text_at k (omega (arith, texts_length))) (before k (omega (arith, texts_length))))) e

@@ -27,13 +27,13 @@ use Rattle.solvers.specs.Calls.{is_session}
 use Rattle.solvers.specs.Image.{no_session}
 use Rattle.solvers.specs.Narrow.{narrow_depth, wide_of, narrow_of, is_narrow, widened, narrowed, no_narrow, Turned, answer_of, or_else, widen_call, narrow_call, Bytes}
 use Rattle.solvers.proofs.Returned.{stops, passes}
-use Rattle.solvers.proofs.IsSession.{stands, within-depth}
+use Rattle.solvers.proofs.IsSession.{stands, within_depth}
 use Rattle.narrow_sessions.specs.Turned.{widened_in, narrowed_in, Given, TurnReturned}
 
 module _ {S : Type 0} {o : Outcome S} {none : S} where
-  gives-refusal : {why : Refusal} {a : Tested} {s : S} → o ≡ refused (number why) → (a ≡ tested.Refused why) × (s ≡ none) → Given o none a s
+  gives_refusal : {why : Refusal} {a : Tested} {s : S} → o ≡ refused (number why) → (a ≡ tested.Refused why) × (s ≡ none) → Given o none a s
   unfolding tested_value answer_of or_else
-  gives-refusal e q = record { answer = rw e (ap tested_value q.0); session = rw e q.1 }
+  gives_refusal e q = record { answer = rw e (ap tested_value q.0); session = rw e q.1 }
 
   gives : {s : S} → o ≡ accepted s → Given o none tested.Good s
   unfolding tested_value answer_of or_else
@@ -41,40 +41,40 @@ module _ {S : Type 0} {o : Outcome S} {none : S} where
 
 -- ---- wide
 module _ (b : Book) (s : NarrowSession) {w : Session} (e : w ≡ wide_of s) where
-  pub widen-outside : {a : Tested} {q : Session} → is_session (program b) w ≡ false → (a ≡ tested.Refused NoSession) × (q ≡ no_session) → Given (widened_in b s) no_session a q
-  widen-outside h = gives-refusal (unfold widened_in is_narrow refuse ◌>>◌ number in rw (rw e at h))
+  pub widen_outside : {a : Tested} {q : Session} → is_session (program b) w ≡ false → (a ≡ tested.Refused NoSession) × (q ≡ no_session) → Given (widened_in b s) no_session a q
+  widen_outside h = gives_refusal (unfold widened_in is_narrow refuse ◌>>◌ number in rw (rw e at h))
 
-  pub widen-deep : {a : Tested} {q : Session} {x : Bool} → is_session (program b) w ≡ true → x ≡ ltb narrow_depth (depth (program b) w.node) → x ≡ true
+  pub widen_deep : {a : Tested} {q : Session} {x : Bool} → is_session (program b) w ≡ true → x ≡ ltb narrow_depth (depth (program b) w.node) → x ≡ true
       → (a ≡ tested.Refused NoSession) × (q ≡ no_session) → Given (widened_in b s) no_session a q
-  widen-deep h k t =
+  widen_deep h k t =
       let deep : narrow_depth < depth (program b) s.node = unfold wide_of in rw e at (ltb-true narrow_depth (depth (program b) w.node) (sym k ∙ t)) in
-      gives-refusal (unfold widened_in is_narrow refuse ◌>>◌ number in rw (rw e at h, lt-leb (depth (program b) s.node) narrow_depth deep))
+      gives_refusal (unfold widened_in is_narrow refuse ◌>>◌ number in rw (rw e at h, lt-leb (depth (program b) s.node) narrow_depth deep))
 
-  pub widen-done : {x : Bool} → is_session (program b) w ≡ true → x ≡ ltb narrow_depth (depth (program b) w.node) → x ≡ false → Given (widened_in b s) no_session tested.Good w
-  widen-done h k t =
+  pub widen_done : {x : Bool} → is_session (program b) w ≡ true → x ≡ ltb narrow_depth (depth (program b) w.node) → x ≡ false → Given (widened_in b s) no_session tested.Good w
+  widen_done h k t =
       let shallow : depth (program b) s.node ≤ narrow_depth = unfold wide_of in rw e at (ltb-false narrow_depth (depth (program b) w.node) (sym k ∙ t)) in
       rw e (gives (unfold widened_in is_narrow refuse ◌>>◌ in rw (rw e at h, le-leb (depth (program b) s.node) narrow_depth shallow)))
 
 -- ---- back
 module _ (b : Book) (w : Session) where
-  pub narrow-outside : {a : Tested} {q : NarrowSession} → is_session (program b) w ≡ false → (a ≡ tested.Refused NoSession) × (q ≡ no_narrow) → Given (narrowed_in b w) no_narrow a q
-  narrow-outside h = gives-refusal (unfold narrowed_in refuse ◌>>◌ number in rw h)
+  pub narrow_outside : {a : Tested} {q : NarrowSession} → is_session (program b) w ≡ false → (a ≡ tested.Refused NoSession) × (q ≡ no_narrow) → Given (narrowed_in b w) no_narrow a q
+  narrow_outside h = gives_refusal (unfold narrowed_in refuse ◌>>◌ number in rw h)
 
-  pub narrow-deep : {a : Tested} {q : NarrowSession} {x : Bool} → is_session (program b) w ≡ true → x ≡ ltb narrow_depth (depth (program b) w.node) → x ≡ true
+  pub narrow_deep : {a : Tested} {q : NarrowSession} {x : Bool} → is_session (program b) w ≡ true → x ≡ ltb narrow_depth (depth (program b) w.node) → x ≡ true
       → (a ≡ tested.Refused TooDeepForNarrow) × (q ≡ no_narrow) → Given (narrowed_in b w) no_narrow a q
-  narrow-deep h k t = gives-refusal (unfold narrowed_in refuse ◌>>◌ number in rw (h, sym k ∙ t))
+  narrow_deep h k t = gives_refusal (unfold narrowed_in refuse ◌>>◌ number in rw (h, sym k ∙ t))
 
-  pub narrow-done : {q : NarrowSession} {x : Bool} → is_session (program b) w ≡ true → x ≡ ltb narrow_depth (depth (program b) w.node) → x ≡ false → q ≡ narrow_of w
+  pub narrow_done : {q : NarrowSession} {x : Bool} → is_session (program b) w ≡ true → x ≡ ltb narrow_depth (depth (program b) w.node) → x ≡ false → q ≡ narrow_of w
       → Given (narrowed_in b w) no_narrow tested.Good q
-  narrow-done h k t e = rw e (gives (unfold narrowed_in refuse ◌>>◌ in rw (h, sym k ∙ t)))
+  narrow_done h k t e = rw e (gives (unfold narrowed_in refuse ◌>>◌ in rw (h, sym k ∙ t)))
 
 module _ (b : Book) (P : Promise b) (w : Session) (h : is_session (program b) w ≡ true) where
-  pub is-node : IsNode b w.node
-  is-node = record { promise = P; inside = (stands b P w h).inside }
+  pub is_node : IsNode b w.node
+  is_node = record { promise = P; inside = (stands b P w h).inside }
 
   -- a level is at most as deep as the node
-  pub levels-bytes : {x : Bool} → x ≡ ltb narrow_depth (depth (program b) w.node) → x ≡ false → Bytes w.levels
-  levels-bytes k t i j = omega (arith, all-at (within-depth b P w h) i 0 j, ltb-false narrow_depth (depth (program b) w.node) (sym k ∙ t))
+  pub levels_bytes : {x : Bool} → x ≡ ltb narrow_depth (depth (program b) w.node) → x ≡ false → Bytes w.levels
+  levels_bytes k t i j = omega (arith, all-at (within_depth b P w h) i 0 j, ltb-false narrow_depth (depth (program b) w.node) (sym k ∙ t))
 
 -- ---- behind the book test
 unfoldable pub turn : {S : Type 0} → Book → (scratch : List ℕ) → S → Outcome S → Turned S
@@ -85,24 +85,24 @@ turn b scratch none o =
       scratch = scratch_after scratch;
     }
 
-pub widen-turn : (b : Book) (s : NarrowSession) (scratch : List ℕ) → turn b scratch no_session (widened_in b s) ≡ widen_call b s scratch
+pub widen_turn : (b : Book) (s : NarrowSession) (scratch : List ℕ) → turn b scratch no_session (widened_in b s) ≡ widen_call b s scratch
 unfolding turn widen_call widened widened_in
-widen-turn b s scratch = refl
+widen_turn b s scratch = refl
 
-pub narrow-turn : (b : Book) (s : Session) (scratch : List ℕ) → turn b scratch no_narrow (narrowed_in b s) ≡ narrow_call b s scratch
+pub narrow_turn : (b : Book) (s : Session) (scratch : List ℕ) → turn b scratch no_narrow (narrowed_in b s) ≡ narrow_call b s scratch
 unfolding turn narrow_call narrowed narrowed_in
-narrow-turn b s scratch = refl
+narrow_turn b s scratch = refl
 
 module _ {S : Type 0} (b : Book) (scratch : List ℕ) (none : S) (o : Outcome S) {l : Turned S} (is : turn b scratch none o ≡ l) {d : Tested} {scratch' : List ℕ}
     (h : (tested_value d ≡ (book_test_call b scratch).answer) × (scratch' ≡ (book_test_call b scratch).scratch)) {a : Tested} {s : S} where
-  pub turn-stops : {why : Refusal} → d ≡ tested.Refused why → (a ≡ tested.Refused why) × (s ≡ none) → TurnReturned l a s scratch'
+  pub turn_stops : {why : Refusal} → d ≡ tested.Refused why → (a ≡ tested.Refused why) × (s ≡ none) → TurnReturned l a s scratch'
   unfolding turn ◌>>◌ book_test_call tested_value answer_of or_else
-  turn-stops e q =
+  turn_stops e q =
       let t = stops b scratch h.0 e in
       rw (sym is) (record { answer = rw t (ap tested_value q.0); session = rw t q.1; scratch'' = h.1 })
 
-  pub turn-passes : d ≡ tested.Good → Given o none a s → TurnReturned l a s scratch'
+  pub turn_passes : d ≡ tested.Good → Given o none a s → TurnReturned l a s scratch'
   unfolding turn ◌>>◌ book_test_call
-  turn-passes e g =
+  turn_passes e g =
       let t = passes b scratch h.0 e in
       rw (sym is) (record { answer = rw t g.answer; session = rw t g.session; scratch'' = h.1 })

@@ -9,6 +9,6 @@ module _ {A : Type 0} (room size : ℕ) (fits other : A) {a : A} where
   unfolding for_room
   room_fits h e = rw (eq-eqb room size h) e
 
-  pub room-other : ¬ (room ≡ size) → a ≡ other → a ≡ for_room room size fits other
+  pub room_other : ¬ (room ≡ size) → a ≡ other → a ≡ for_room room size fits other
   unfolding for_room
-  room-other h e = rw (ne_eqb room size h) e
+  room_other h e = rw (ne_eqb room size h) e

@@ -7,27 +7,27 @@ use mathlib.Core.List.{List}
 use lib.ListN.{length, take, drop, length-drop}
 use lib.Seq.{take_all}
 use Rattle.basics.specs.Write.{MOST, Wrote, WroteAt}
-use Rattle.basics.proofs.Laws.{overlay-whole}
-use Rattle.basics.proofs.Places.{at-then, at-whole}
+use Rattle.basics.proofs.Laws.{overlay_whole}
+use Rattle.basics.proofs.Places.{at_then, at_whole}
 use Rattle.book.specs.Book.{word}
 use Rattle.rsolver.specs.LevelState.{level_count, no_levels}
 use Rattle.solvers.specs.declared.Owed.{Owed}
 use Rattle.solvers.specs.declared.Owed.TheVariants.{Nothing}
 use Rattle.solvers.specs.declared.NarrowSession.{NarrowSession}
 use Rattle.solvers.specs.Image.{head_size, owed_of, head_of, no_session}
-use Rattle.solvers.specs.Narrow.{narrow_session, narrow_of, narrow_kind, narrow_size, write_narrow, no_narrow, is_narrow_image, read_narrow}
-use Rattle.solvers.proofs.Head.{kind-told}
-use Rattle.solvers.proofs.NarrowImage.{length-narrow}
+use Rattle.solvers.specs.Narrow.{narrow_session, narrow_of, narrow_kind, narrow_size, write_narrow, no-narrow, is_narrow_image, read_narrow}
+use Rattle.solvers.proofs.Head.{kind_told}
+use Rattle.solvers.proofs.NarrowImage.{length_narrow}
 
-pub narrow-long : (image : List ℕ) → is_narrow_image image ≡ true → length image ≡ narrow_size
+pub narrow_long : (image : List ℕ) → is_narrow_image image ≡ true → length image ≡ narrow_size
 unfolding is_narrow_image
-narrow-long image h = (kind-told narrow_kind narrow_size image h).long
+narrow_long image h = (kind_told narrow_kind narrow_size image h).long
 
-pub no-narrow : {levels : List ℕ} → levels ≡ no_levels → narrow_session 0xFFFFFFFF 0 Nothing levels ≡ no_narrow
-unfolding no_narrow narrow_of no_session
+pub no-narrow : {levels : List ℕ} → levels ≡ no_levels → narrow_session 0xFFFFFFFF 0 Nothing levels ≡ no-narrow
+unfolding no-narrow narrow_of no_session
 no-narrow e = ap (narrow_session 0xFFFFFFFF 0 Nothing) e
 
-pub read_none : (image : List ℕ) {s : NarrowSession} → is_narrow_image image ≡ false → s ≡ no_narrow → s ≡ read_narrow image
+pub read_none : (image : List ℕ) {s : NarrowSession} → is_narrow_image image ≡ false → s ≡ no-narrow → s ≡ read_narrow image
 unfolding read_narrow
 read_none image h e = rw h e
 
@@ -41,7 +41,7 @@ pub filled : (image : List ℕ) {o q : List ℕ} {r : ℕ} → Wrote (take (leng
     → q ≡ drop head_size image
 filled image {o} w long room =
     let rest : take (length image - head_size) (drop head_size image) ≡ drop head_size image = take_all (length image - head_size) (drop head_size image) (omega (arith, length-drop head_size image)) in
-    w.shown ∙ rw rest (overlay-whole (drop head_size image) o (omega (arith, length-drop head_size image)))
+    w.shown ∙ rw rest (overlay_whole (drop head_size image) o (omega (arith, length-drop head_size image)))
 
 -- the levels behind the four words
 pub saved : (s : NarrowSession) (x : List ℕ) {o q : List ℕ} {r1 r : ℕ} → length x ≡ narrow_size → length s.levels ≡ level_count
@@ -49,4 +49,4 @@ pub saved : (s : NarrowSession) (x : List ℕ) {o q : List ℕ} {r1 r : ℕ} →
 unfolding write_narrow
 saved s x long levels w1 w2 =
     let short : length x < MOST + 1 = omega arith in
-    at-whole (at-then short w1 w2) (length-narrow s levels ∙ omega arith)
+    at_whole (at_then short w1 w2) (length_narrow s levels ∙ omega arith)

@@ -72,6 +72,6 @@ pub record AreLetters (name : Text) (p e : Bool) (r : letters-code.Letters) : Ty
 pub record AreParts (behind : ℕ) (probe : Text) (p e : Bool) (text : Text) (t : Bool) (r : parts-code.NameParts) : Type 0 where
   pub letters : take r.letters_length r.letters ++ take r.text_length text ≡ all_letters (new_before probe p e ++ optional t text)
   pub rows : take r.rows_length r.rows ≡ rows (name_rows behind (new_before probe p e ++ optional t text))
-  pub letters-fit : r.letters_length ≤ length r.letters
-  pub text-fits : r.text_length ≤ length text
+  pub letters_fit : r.letters_length ≤ length r.letters
+  pub text_fits : r.text_length ≤ length text
   pub rows_fit : r.rows_length ≤ length r.rows

@@ -37,10 +37,10 @@ module _ (b : Book) (ns : List ℕ) where
 
 -- the whole call
 module _ (b : Book) (scratch nodes : List ℕ) {d : Tested} {after : List ℕ} (h : (tested_value d ≡ (book_test_call b scratch).answer) × (after ≡ (book_test_call b scratch).scratch)) where
-  pub call-stops : {why : Refusal} → d ≡ tested.Refused why
+  pub call_stops : {why : Refusal} → d ≡ tested.Refused why
       → (nodes_tested_value (Refused why) ≡ (nodes_test_call b scratch nodes).answer) × (after ≡ (nodes_test_call b scratch nodes).scratch)
   unfolding nodes_test_call nodes_tested nodes_tested_value ◌>>◌ book_test_call
-  call-stops e = (rw (stops b scratch h.0 e), h.1)
+  call_stops e = (rw (stops b scratch h.0 e), h.1)
 
   pub call_passes : (r : NodesTested) → d ≡ tested.Good → nodes_tested_value r ≡ nodes_in b (numbers nodes)
       → (nodes_tested_value r ≡ (nodes_test_call b scratch nodes).answer) × (after ≡ (nodes_test_call b scratch nodes).scratch)

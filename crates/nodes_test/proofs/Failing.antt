@@ -17,7 +17,7 @@ use Rattle.levels.specs.declared.Progress.{Progress}
 use Rattle.engine.specs.Engine.{state_at, IsState, Standing}
 use Rattle.solvers.specs.Rule.{standing}
 use Rattle.solvers.proofs.Good.{good}
-use Rattle.solvers.proofs.Enough.{levels-length}
+use Rattle.solvers.proofs.Enough.{levels_length}
 use Rattle.nodes_test.specs.declared.NodesTested.TheVariants.{Pass, Fails}
 use Rattle.nodes_test.specs.NodesTest.{could_move, first_failing, nodes_tested_value}
 
@@ -46,20 +46,20 @@ pub record Moving (b : Book) (ns : List ℕ) (i at : ℕ) (ls : List ℕ) : Type
   pub passed : Passed (program b) ns i
 
 module _ (b : Book) (ns : List ℕ) where
-  pub moving-start : {ls : List ℕ} → ls ≡ no_levels → Moving b ns 0 0 ls
+  pub moving_start : {ls : List ℕ} → ls ≡ no_levels → Moving b ns 0 0 ls
   unfolding standing fresh path path_up
-  moving-start e = record { few = omega arith; here = omega arith; levels = e; clear = refl; passed = λ k l. absurd (omega arith) }
+  moving_start e = record { few = omega arith; here = omega arith; levels = e; clear = refl; passed = λ k l. absurd (omega arith) }
 
-  pub moving-on : Promise b → {i at new : ℕ} {ls : List ℕ} → Moving b ns i at ls → new ≤ size b contexts → Standing b at new ls
-  moving-on P m l = record { promise = P; from = m.here; to = l; levels = m.levels; clear = m.clear }
+  pub moving_on : Promise b → {i at new : ℕ} {ls : List ℕ} → Moving b ns i at ls → new ≤ size b contexts → Standing b at new ls
+  moving_on P m l = record { promise = P; from = m.here; to = l; levels = m.levels; clear = m.clear }
 
-  pub moving-wide : Promise b → {i at : ℕ} {ls : List ℕ} → Moving b ns i at ls → level_count ≡ length ls
-  moving-wide P {at = at} m = sym (ap length m.levels ∙ levels-length (program b) (good b P) (path (program b) at))
+  pub moving_wide : Promise b → {i at : ℕ} {ls : List ℕ} → Moving b ns i at ls → level_count ≡ length ls
+  moving_wide P {at = at} m = sym (ap length m.levels ∙ levels_length (program b) (good b P) (path (program b) at))
 
   module _ {i at new : ℕ} {ls ls' : List ℕ} {r : Progress} (m : Moving b ns i at ls) (is : new ≡ get_or ns i 0) (s : IsState (state_at b new) ls' r) where
-    pub moving-more : r.missing ≡ false → i < length ns → new ≤ size b contexts → Moving b ns (i + 1) new ls'
+    pub moving_more : r.missing ≡ false → i < length ns → new ≤ size b contexts → Moving b ns (i + 1) new ls'
     unfolding could_move
-    moving-more h f l =
+    moving_more h f l =
         let clear : (state_at b new).missing ≡ false = sym s.missing ∙ h in
         record { few = omega arith; here = l; levels = s.levels; clear = clear; passed = λ k j. at_place clear k j (dec_lt k i) }
       where
@@ -67,10 +67,10 @@ module _ (b : Book) (ns : List ℕ) where
         at_place clear k j (yes e) = m.passed k e
         at_place clear k j (no e) = let q : k ≡ i = omega arith in rw (q, ← is, clear)
 
-    pub moving-stop : r.missing ≡ true → i < length ns → nodes_tested_value (Fails i) ≡ accepted (first_failing (program b) ns)
+    pub moving_stop : r.missing ≡ true → i < length ns → nodes_tested_value (Fails i) ≡ accepted (first_failing (program b) ns)
     unfolding could_move nodes_tested_value
-    moving-stop h l = rw (first-is (program b) ns i l m.passed (rw (← is, sym s.missing ∙ h)))
+    moving_stop h l = rw (first-is (program b) ns i l m.passed (rw (← is, sym s.missing ∙ h)))
 
-  pub moving-done : {i at : ℕ} {ls : List ℕ} → Moving b ns i at ls → length ns ≤ i → nodes_tested_value Pass ≡ accepted (first_failing (program b) ns)
+  pub moving_done : {i at : ℕ} {ls : List ℕ} → Moving b ns i at ls → length ns ≤ i → nodes_tested_value Pass ≡ accepted (first_failing (program b) ns)
   unfolding nodes_tested_value
-  moving-done {i} m l = let e : i ≡ length ns = omega (arith, m.few) in rw (none_is (program b) ns (rw e at m.passed))
+  moving_done {i} m l = let e : i ≡ length ns = omega (arith, m.few) in rw (none_is (program b) ns (rw e at m.passed))

@@ -1,4 +1,4 @@
--- What the test tells, in the words of the calls. Proved in proofs/: reaches and from-root (Reach), never-9 (Never9), first (First).
+-- What the test tells, in the words of the calls. Proved in proofs/: reaches and from_root (Reach), never_9 (Never9), first (First).
 use Rattle.std.specs.Prelude.{ℕ, suc, ◌≤◌, ◌<◌, ◌≡◌, true, false, List, length, get_or}
 use Rattle.std.proofs.Math.Option.{none, some}
 use Rattle.basics.specs.Lists.{member}

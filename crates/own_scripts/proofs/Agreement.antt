@@ -8,26 +8,26 @@ use mathlib.Core.List.{List, [], ◌∷◌}
 use lib.ListN.{length}
 use Rattle.basics.specs.Text.{Text}
 use Rattle.basics.specs.Outcome.{accepted}
-use Rattle.basics.proofs.Bool.{and_both, both-and}
+use Rattle.basics.proofs.Bool.{and_both, both_and}
 use Rattle.book.specs.Book.{Book}
 use Rattle.smt_engines.specs.Reader.{Stack, first, over, height}
 use Rattle.level_lines.specs.AsOften.{as_often, same_levels}
-use Rattle.level_lines.proofs.Bags.{same-bag, bag-same}
+use Rattle.level_lines.proofs.Bags.{same_bag, bag_same}
 use Rattle.script_checks.specs.ScriptChecks.{checks}
 use Rattle.question_lists.specs.Questions.{Question, questions_of, question_at, stack_for}
 use Rattle.audit.specs.Audit.{Verdict, agrees, differs_at, agreeing, verdict, audited}
-use Rattle.audit.proofs.Accepted.{not-refused}
+use Rattle.audit.proofs.Accepted.{not_refused}
 use Rattle.own_scripts.specs.Agreement.{level_at, AsOften, SameCommands, OftenTest, LevelsTest, AgreesAt, Agreement, Audits}
 
 -- ---- one level
 as-often : (l m : List Text) → as_often l m ≡ true → AsOften l m
-as-often l m h = (same-bag l m h).counts
+as-often l m h = (same_bag l m h).counts
 
-often-as : (l m : List Text) → AsOften l m → as_often l m ≡ true
-often-as l m h = bag-same l m h
+often_as : (l m : List Text) → AsOften l m → as_often l m ≡ true
+often_as l m h = bag_same l m h
 
-pub often-test : (l m : List Text) → OftenTest l m
-often-test l m = record { each = as-often l m; only = often-as l m }
+pub often_test : (l m : List Text) → OftenTest l m
+often_test l m = record { each = as-often l m; only = often_as l m }
 
 -- ---- all levels
 positive : (st : Stack) → 0 < height st
@@ -35,34 +35,34 @@ unfolding height
 positive (first l) = omega arith
 positive (over l st) = omega arith
 
-same-commands : (st su : Stack) → same_levels st su ≡ true → SameCommands st su
+same_commands : (st su : Stack) → same_levels st su ≡ true → SameCommands st su
 unfolding same_levels level_at height
-same-commands (first l) (first m) h = record { height = refl; levels = at }
+same_commands (first l) (first m) h = record { height = refl; levels = at }
   where
     at : (k : ℕ) → AsOften (level_at (first l) k) (level_at (first m) k)
     at zero = as-often l m h
     at (suc k) = λ x. refl
-same-commands (first l) (over m su) h = absurd (false≢true h)
-same-commands (over l st) (first m) h = absurd (false≢true h)
-same-commands (over l st) (over m su) h =
+same_commands (first l) (over m su) h = absurd (false≢true h)
+same_commands (over l st) (first m) h = absurd (false≢true h)
+same_commands (over l st) (over m su) h =
     let r = and_both (as_often l m) (same_levels st su) h in
-    let s = same-commands st su r.1 in
+    let s = same_commands st su r.1 in
     record { height = ap suc s.height; levels = at r.0 s }
   where
     at : as_often l m ≡ true → SameCommands st su → (k : ℕ) → AsOften (level_at (over l st) k) (level_at (over m su) k)
     at e s zero = as-often l m e
     at e s (suc k) = s.levels k
 
-commands-same : (st su : Stack) → SameCommands st su → same_levels st su ≡ true
+commands_same : (st su : Stack) → SameCommands st su → same_levels st su ≡ true
 unfolding same_levels level_at height
-commands-same (first l) (first m) c = often-as l m (c.levels 0)
-commands-same (first l) (over m su) c = absurd (omega (arith, c.height, positive su))
-commands-same (over l st) (first m) c = absurd (omega (arith, c.height, positive st))
-commands-same (over l st) (over m su) c =
-    both-and (often-as l m (c.levels 0)) (commands-same st su (record { height = omega (arith, c.height); levels = λ k. c.levels (suc k) }))
+commands_same (first l) (first m) c = often_as l m (c.levels 0)
+commands_same (first l) (over m su) c = absurd (omega (arith, c.height, positive su))
+commands_same (over l st) (first m) c = absurd (omega (arith, c.height, positive st))
+commands_same (over l st) (over m su) c =
+    both_and (often_as l m (c.levels 0)) (commands_same st su (record { height = omega (arith, c.height); levels = λ k. c.levels (suc k) }))
 
-pub levels-test : (st su : Stack) → LevelsTest st su
-levels-test st su = record { each = same-commands st su; only = commands-same st su }
+pub levels_test : (st su : Stack) → LevelsTest st su
+levels_test st su = record { each = same_commands st su; only = commands_same st su }
 
 -- ---- the verdict
 module _ (b : Book) where
@@ -91,7 +91,7 @@ module _ (b : Book) where
   found k (st ∷ sts) (q ∷ qs) e = at (same_levels st (stack_for b q)) refl (found (suc k) sts qs (omega arith))
     where
       one : {n : ℕ} → same_levels st (stack_for b q) ≡ true → Agree sts qs n → Agree (st ∷ sts) (q ∷ qs) (suc n)
-      one h f zero l = same-commands st (stack_for b q) h
+      one h f zero l = same_commands st (stack_for b q) h
       one h f (suc i) l = f i (omega arith)
 
       at : (x : Bool) → same_levels st (stack_for b q) ≡ x → Found (suc k) sts qs → Found k (st ∷ sts) (q ∷ qs)
@@ -101,7 +101,7 @@ module _ (b : Book) where
           inr (suc j, record { says = rw h (f.says ∙ ap differs_at n); here = omega (arith, f.here); differs = f.differs; before = one h f.before })
       at false h r =
           let n : k ≡ k + 0 = omega arith in
-          inr (0, record { says = rw h (ap differs_at n); here = omega arith; differs = λ c. true≢false (sym (commands-same st (stack_for b q) c) ∙ h); before = λ i l. absurd (omega arith) })
+          inr (0, record { says = rw h (ap differs_at n); here = omega arith; differs = λ c. true≢false (sym (commands_same st (stack_for b q) c) ∙ h); before = λ i l. absurd (omega arith) })
 
   agrees≢differs : {k : ℕ} → agrees ≡ differs_at k → ⊥
   agrees≢differs e = let z : ◌≡◌ {A = ℕ} 0 1 = cc in omega arith
@@ -134,5 +134,5 @@ module _ (b : Book) where
 -- ---- the call: behind 27 there are as many check-sats as questions
 pub audits : (scratch : ℕ) (b : Book) (numbers : List ℕ) (script : Text) (v : Verdict) → audited scratch b numbers script ≡ accepted v → Audits b numbers script v
 audits scratch b numbers script v e =
-    let a = not-refused scratch b numbers script v e in
+    let a = not_refused scratch b numbers script v e in
     record { given = a.given; means = agreement b (checks script) (questions_of numbers) a.even }

@@ -16,18 +16,18 @@ use Rattle.solvers.specs.Rule.{present}
 use Rattle.stack_rule.specs.Events.{Event, Trace, run}
 use Rattle.script_checks.specs.ScriptChecks.{checks}
 use Rattle.level_lines.specs.AsOften.{same_levels}
-use Rattle.level_lines.proofs.Bags.{bag-same}
+use Rattle.level_lines.proofs.Bags.{bag_same}
 use Rattle.question_lists.specs.Questions.{Question, questions_of, numbers_of, is_inside, is_complete, stack_for}
 use Rattle.audit.specs.Audit.{Verdict, agrees, agreeing, verdict, audited}
 use Rattle.own_scripts.specs.OwnScripts.{asked, OwnScripts}
 use Rattle.own_scripts.proofs.Said.{Open}
-use Rattle.own_scripts.proofs.Asked.{Told, own-told}
+use Rattle.own_scripts.proofs.Asked.{Told, own_told}
 
 -- ---- the questions
-numbers-back : (qs : List Question) → questions_of (numbers_of qs) ≡ qs
+numbers_back : (qs : List Question) → questions_of (numbers_of qs) ≡ qs
 unfolding questions_of numbers_of
-numbers-back [] = refl
-numbers-back (q ∷ qs) = ap {B = List Question} (λ r. q ∷ r) (numbers-back qs)
+numbers_back [] = refl
+numbers_back (q ∷ qs) = ap {B = List Question} (λ r. q ∷ r) (numbers_back qs)
 
 all-inside : (b : Book) {qs : List Question} → All (Open b) qs → all qs (is_inside b) ≡ true
 unfolding all is_inside present
@@ -41,15 +41,15 @@ all-complete b end = refl
 all-complete b (more {a = q} f fs) = rw (f.asks.1, all-complete b fs)
 
 -- ---- the verdict
-levels-refl : (st : Stack) → same_levels st st ≡ true
+levels_refl : (st : Stack) → same_levels st st ≡ true
 unfolding same_levels
-levels-refl (Stack.first l) = bag-same l l (λ x. refl)
-levels-refl (Stack.over l st) = rw (bag-same l l (λ x. refl), levels-refl st)
+levels_refl (Stack.first l) = bag_same l l (λ x. refl)
+levels_refl (Stack.over l st) = rw (bag_same l l (λ x. refl), levels_refl st)
 
-agree-own : (b : Book) (k : ℕ) (qs : List Question) → verdict k (agreeing b (map (stack_for b) qs) qs) ≡ agrees
+agree_own : (b : Book) (k : ℕ) (qs : List Question) → verdict k (agreeing b (map (stack_for b) qs) qs) ≡ agrees
 unfolding agreeing verdict
-agree-own b k [] = refl
-agree-own b k (q ∷ qs) = rw (levels-refl (stack_for b q)) (agree-own b (suc k) qs)
+agree_own b k [] = refl
+agree_own b k (q ∷ qs) = rw (levels_refl (stack_for b q)) (agree_own b (suc k) qs)
 
 -- ---- the ladder
 abbrev Says : Outcome Verdict → Type 0
@@ -61,7 +61,7 @@ unfolding audited
 says scratch t qs x =
     let b = t.book in
     let even : length (checks t.text) ≡ length qs = ap length x.seen ∙ length-map qs (stack_for b) in
-    rw (numbers-back qs)
+    rw (numbers_back qs)
     (may Says 1 _ _ (omega arith)
     (may Says 2 _ _ (omega arith)
     (may Says 3 _ _ (omega arith)
@@ -74,12 +74,12 @@ says scratch t qs x =
     (may Says 25 _ _ (omega arith)
     (may Says 26 _ _ (omega arith)
     (past Says 27 _ (ap not (eq-eqb (length (checks t.text)) (length qs) even))
-    (rw x.seen (agree-own b 1 qs))))))))))))))
+    (rw x.seen (agree_own b 1 qs))))))))))))))
 
 pub own-scripts : (b : Book) (es : List Event) → OwnScripts b es
 own-scripts b es =
     let s : (scratch : ℕ) → Says (audited scratch (run b es).book (numbers_of (asked b es)) (run b es).text) =
-    λ scratch. says scratch (run b es) (asked b es) (own-told b es) in
+    λ scratch. says scratch (run b es) (asked b es) (own_told b es) in
     record {
       accepts = λ scratch v e. subst Says e (s scratch);
       never7 = λ scratch e. (subst Says e (s scratch)).0 refl;

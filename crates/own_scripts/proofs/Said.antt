@@ -21,55 +21,55 @@ use Rattle.solvers.specs.Calls.{Call, move_to, ask_for, reply_with, model_with}
 use Rattle.solvers.specs.Rule.{goal_commands, denial_commands, move_commands, question_commands, reply_commands, Present, present, next, must_live, said}
 use Rattle.solvers.proofs.Questions.{Fits, Leaves}
 use Rattle.solvers.proofs.Root.{G, T}
-use Rattle.own_levels.proofs.Sent.{entering-all, question-all}
+use Rattle.own_levels.proofs.Sent.{entering_all, question_all}
 use Rattle.script_checks.specs.ScriptChecks.{checks_from}
 use Rattle.question_lists.specs.Questions.{Question, stack_for}
 use Rattle.own_scripts.specs.OwnScripts.{asked_by}
-use Rattle.own_scripts.proofs.CheckSats.{NoCheck, plain-no, checks-none, checked}
+use Rattle.own_scripts.proofs.CheckSats.{NoCheck, plain_no, checks_none, checked}
 
 -- a question that the book can be asked
 abbrev pub Open : Book → Question → Type 0
 Open b q = Fits b (present q.node q.goal Reply)
 
 -- ---- the commands that are no check-sat
-push-no : NoCheck Push
+push_no : NoCheck Push
 unfolding same command_to_string CMD_PUSH CMD_CHECK_SAT
-push-no = refl
+push_no = refl
 
-pop-no : NoCheck Pop
+pop_no : NoCheck Pop
 unfolding same command_to_string CMD_POP CMD_CHECK_SAT
-pop-no = refl
+pop_no = refl
 
-model-no : NoCheck GetModel
+model_no : NoCheck GetModel
 unfolding same command_to_string CMD_GET_MODEL CMD_CHECK_SAT
-model-no = refl
+model_no = refl
 
-pops-no : (k : ℕ) → All NoCheck (replicate k Pop)
-pops-no zero = end
-pops-no (suc k) = more pop-no (pops-no k)
+pops_no : (k : ℕ) → All NoCheck (replicate k Pop)
+pops_no zero = end
+pops_no (suc k) = more pop_no (pops_no k)
 
-closing-no : All NoCheck (Pop ∷ Pop ∷ [])
-closing-no = more pop-no (more pop-no end)
+closing_no : All NoCheck (Pop ∷ Pop ∷ [])
+closing_no = more pop_no (more pop_no end)
 
-replies-no : (unsat : Bool) → All NoCheck (reply_commands unsat)
+replies_no : (unsat : Bool) → All NoCheck (reply_commands unsat)
 unfolding reply_commands
-replies-no true = closing-no
-replies-no false = more model-no end
+replies_no true = closing_no
+replies_no false = more model_no end
 
 module _ (b : Book) (ok : book_test b ≡ accepted tt) where
-  move-no : (a n : ℕ) → All NoCheck (move_commands (program b) a n)
+  move_no : (a n : ℕ) → All NoCheck (move_commands (program b) a n)
   unfolding move_commands
-  move-no a n =
+  move_no a n =
       let p = program b in
       let s = shared (path p a) (path p n) in
-      all_append (pops-no (depth p a - s)) (entering-all NoCheck push-no plain-no p (G b ok) (reverse (take (depth p n - s) (path p n))))
+      all_append (pops_no (depth p a - s)) (entering_all NoCheck push_no plain_no p (G b ok) (reverse (take (depth p n - s) (path p n))))
 
   -- ---- an accepted call
   module _ (w : Present) where
-    pub call-checks : (c : Call) (x : Written) → Leaves b w c x → checks_from (live (must_live b w)) (lines (said b w c)) ≡ map (stack_for b) (asked_by c)
+    pub call_checks : (c : Call) (x : Written) → Leaves b w c x → checks_from (live (must_live b w)) (lines (said b w c)) ≡ map (stack_for b) (asked_by c)
     unfolding said asked_by stack_for next question_commands
-    call-checks (move_to h n) x k = checks-none _ (move-no w.node n)
-    call-checks (ask_for h n t) x k =
+    call_checks (move_to h n) x k = checks_none _ (move_no w.node n)
+    call_checks (ask_for h n t) x k =
         let p = program b in
         let e = term b t in
         let m = move_commands p w.node n in
@@ -78,15 +78,15 @@ module _ (b : Book) (ok : book_test b ≡ accepted tt) where
         let apart : m ++ (q ++ (CheckSat ∷ [])) ≡ (m ++ q) ++ (CheckSat ∷ []) = sym (append_assoc m q (CheckSat ∷ [])) in
         ap {B = List Stack} (λ cs. checks_from (live (must_live b w)) (lines cs)) apart
         ∙ checked (live (must_live b w)) _
-        (all_append (move-no w.node n) (question-all NoCheck push-no plain-no p (G b ok) n e clean))
+        (all_append (move_no w.node n) (question_all NoCheck push_no plain_no p (G b ok) n e clean))
         (ap {B = Reader} (λ cs. hears (live (must_live b w)) cs) (sym apart) ∙ k.heard)
-    call-checks (reply_with h false r) x k = checks-none _ closing-no
-    call-checks (reply_with h true r) x k = checks-none _ (replies-no (is_unsat r))
-    call-checks (model_with h r m) x k = checks-none _ closing-no
+    call_checks (reply_with h false r) x k = checks_none _ closing_no
+    call_checks (reply_with h true r) x k = checks_none _ (replies_no (is_unsat r))
+    call_checks (model_with h r m) x k = checks_none _ closing_no
 
-    pub call-open : (c : Call) (x : Written) → Leaves b w c x → All (Open b) (asked_by c)
+    pub call_open : (c : Call) (x : Written) → Leaves b w c x → All (Open b) (asked_by c)
     unfolding asked_by next
-    call-open (move_to h n) x k = end
-    call-open (ask_for h n t) x k = more k.fits end
-    call-open (reply_with h ok r) x k = end
-    call-open (model_with h r m) x k = end
+    call_open (move_to h n) x k = end
+    call_open (ask_for h n t) x k = more k.fits end
+    call_open (reply_with h ok r) x k = end
+    call_open (model_with h r m) x k = end

@@ -1,5 +1,5 @@
--- What an audit's verdict says, in the words of the request and without Booleans, and what its 9 says. Proved in proofs/: often-test, levels-test, agreement and
--- audits (Agreement), asks-9 (Asking).
+-- What an audit's verdict says, in the words of the request and without Booleans, and what its 9 says. Proved in proofs/: often_test, levels_test, agreement and
+-- audits (Agreement), asks_9 (Asking).
 use Rattle.std.specs.Prelude.{ℕ, zero, suc, ◌≤◌, ◌<◌, ◌≡◌, true, false, List, [], length, get_or}
 use Rattle.basics.specs.Text.{Text}
 use Rattle.basics.specs.Buffer.{scratch_least}

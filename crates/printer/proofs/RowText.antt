@@ -8,7 +8,7 @@ use mathlib.Core.Bool.{Bool}
 use lib.ListN.{length, take, drop, replicate, length-append, length-take, length-drop}
 use Rattle.basics.specs.Text.{Text, ascii}
 use Rattle.basics.specs.Write.{MOST, Wrote, WroteRepeat}
-use Rattle.basics.proofs.Laws.{joined, wrote_then, wrote_none, wrote_as, wrote-length}
+use Rattle.basics.proofs.Laws.{joined, wrote_then, wrote_none, wrote_as, wrote_length}
 use Rattle.book.specs.Book.{Book}
 use Rattle.solver_expr.specs.SolverExpr.{SExpr, SExprs, S, PP, []ˢ, ◌∷ˢ◌, SExprPrintConfig, extra_indent, indent_step, name_to_string, to_string, list_to_string, args_to_string}
 use Rattle.solver_expr.specs.Values.{text_of, row_of, meaning, FineName, FineRow, Fine}
@@ -40,11 +40,11 @@ lighter s rest e h = rw h (omega arith, omega arith)
 -- The text of a row.
 
 -- one part, and the others
-one-part : (i : ℕ) (s rest : SExprs) (e : SExpr) (c : SExprPrintConfig) → s ≡ e ∷ˢ rest
+one_part : (i : ℕ) (s rest : SExprs) (e : SExpr) (c : SExprPrintConfig) → s ≡ e ∷ˢ rest
     → parts_from i s c ≡ lead i c ++ to_string e c ++ parts_from (i + 1) rest (layout_behind i c)
 unfolding parts_from lead layout_behind args_to_string
-one-part zero s rest e c h = rw h
-one-part (suc i) s rest e c h = rw (h, add-one)
+one_part zero s rest e c h = rw h
+one_part (suc i) s rest e c h = rw (h, add-one)
 
 no_part : (i : ℕ) (s : SExprs) (c : SExprPrintConfig) → s ≡ []ˢ → parts_from i s c ≡ []
 unfolding parts_from args_to_string
@@ -133,21 +133,21 @@ module _ {b : Book} {tag : ℕ} {newlines : Bool} {indent : ℕ} {row : SRow} {o
 
   -- a name
   module _ {m : SName} (e : t ≡ turn.Name m) where
-    pub name-falls : weights (dropˢ (i + 1) (row_of b tag p)) < weights (dropˢ i (row_of b tag p))
-    name-falls = (lighter (dropˢ i (row_of b tag p)) _ _ ((at_name e h.turned).is tag)).1
+    pub name_falls : weights (dropˢ (i + 1) (row_of b tag p)) < weights (dropˢ i (row_of b tag p))
+    name_falls = (lighter (dropˢ i (row_of b tag p)) _ _ ((at_name e h.turned).is tag)).1
 
-    pub name-ready : ReadyName b m
-    name-ready = record { promise = h.ready.promise; fine = (at_name e h.turned).fine }
+    pub name_ready : ReadyName b m
+    name_ready = record { promise = h.ready.promise; fine = (at_name e h.turned).fine }
 
-    pub name-more : {x : List ℕ} {r n' at' : ℕ} {t' : Turn} → WroteIn newlines at (name_part b tag m i) free x r → length x ≡ length free → n' ≡ min (n + r) MOST
+    pub name_more : {x : List ℕ} {r n' at' : ℕ} {t' : Turn} → WroteIn newlines at (name_part b tag m i) free x r → length x ≡ length free → n' ≡ min (n + r) MOST
         → Behind i newlines at at' → Turned b p (i + 1) t' → Standing b tag newlines indent row o (joined k o1 x) p (i + 1) at' pending n' t'
     unfolding name_part to_string
-    name-more {x} {r} {n'} {at'} w same en d h' = record { ready = h.ready; turned = h'; progress = go; light = omega (arith, name-falls, h.light); same = still x same }
+    name_more {x} {r} {n'} {at'} w same en d h' = record { ready = h.ready; turned = h'; progress = go; light = omega (arith, name_falls, h.light); same = still x same }
       where
         go : (c : SExprPrintConfig) → Shows newlines indent c → Progress b tag newlines row c o (joined k o1 x) p (i + 1) at' pending n'
         go c s =
             let g = h.progress c s in
-            let one = one-part i (dropˢ i (row_of b tag p)) _ _ g.layout ((at_name e h.turned).is tag) in
+            let one = one_part i (dropˢ i (row_of b tag p)) _ _ g.layout ((at_name e h.turned).is tag) in
             record {
               layout = layout_behind i g.layout;
               opens = g.opens;
@@ -160,15 +160,15 @@ module _ {b : Book} {tag : ℕ} {newlines : Bool} {indent : ℕ} {row : SRow} {o
 
   -- a row before other parts
   module _ {q : SRow} (e : t ≡ turn.Row q) where
-    pub row-falls : weights (dropˢ (i + 1) (row_of b tag p)) < weights (dropˢ i (row_of b tag p))
-    row-falls = (lighter (dropˢ i (row_of b tag p)) _ _ ((at_row e h.turned).is tag)).1
+    pub row_falls : weights (dropˢ (i + 1) (row_of b tag p)) < weights (dropˢ i (row_of b tag p))
+    row_falls = (lighter (dropˢ i (row_of b tag p)) _ _ ((at_row e h.turned).is tag)).1
 
-    pub row-ready : ReadyRow b q
-    row-ready = record { promise = h.ready.promise; fine = (at_row e h.turned).fine }
+    pub row_ready : ReadyRow b q
+    row_ready = record { promise = h.ready.promise; fine = (at_row e h.turned).fine }
 
-    pub row-lighter : weights (row_of b tag q) < weights (row_of b tag row)
+    pub row_lighter : weights (row_of b tag q) < weights (row_of b tag row)
     unfolding weight
-    row-lighter = omega (arith, (lighter (dropˢ i (row_of b tag p)) _ _ ((at_row e h.turned).is tag)).0, h.light)
+    row_lighter = omega (arith, (lighter (dropˢ i (row_of b tag p)) _ _ ((at_row e h.turned).is tag)).0, h.light)
 
     pub row_more : {x y : List ℕ} {r n1 k1 r1 n' at' : ℕ} {t' : Turn} → WroteIn newlines at (open_part i) free x r → length x ≡ length free → n1 ≡ min (n + r) MOST
         → k1 ≡ min n1 (length (joined k o1 x)) → WroteIn newlines at (row_text b tag q) (take (length (joined k o1 x) - k1) (drop k1 (joined k o1 x))) y r1
@@ -180,14 +180,14 @@ module _ {b : Book} {tag : ℕ} {newlines : Bool} {indent : ℕ} {row : SRow} {o
           ready = h.ready;
           turned = h';
           progress = go;
-          light = omega (arith, row-falls, h.light);
+          light = omega (arith, row_falls, h.light);
           same = joined_length k1 (joined k o1 x) y (omega arith) same1 ∙ still x same;
         }
       where
         go : (c : SExprPrintConfig) → Shows newlines indent c → Progress b tag newlines row c o (joined k1 (joined k o1 x) y) p (i + 1) at' pending n'
         go c s =
             let g = h.progress c s in
-            let one = one-part i (dropˢ i (row_of b tag p)) _ _ g.layout ((at_row e h.turned).is tag) ∙ ap (λ (z : Text). lead i g.layout ++ z ++ parts_from (i + 1) (dropˢ (i + 1) (row_of b tag p)) (layout_behind i g.layout)) (opened (row_of b tag q) g.layout) in
+            let one = one_part i (dropˢ i (row_of b tag p)) _ _ g.layout ((at_row e h.turned).is tag) ∙ ap (λ (z : Text). lead i g.layout ++ z ++ parts_from (i + 1) (dropˢ (i + 1) (row_of b tag p)) (layout_behind i g.layout)) (opened (row_of b tag q) g.layout) in
             record {
               layout = layout_behind i g.layout;
               opens = g.opens;
@@ -200,23 +200,23 @@ module _ {b : Book} {tag : ℕ} {newlines : Bool} {indent : ℕ} {row : SRow} {o
 
   -- a row that is the last part
   module _ {q : SRow} (e : t ≡ turn.Last q) where
-    pub last-falls : weights (dropˢ 0 (row_of b tag q)) < weights (dropˢ i (row_of b tag p))
+    pub last_falls : weights (dropˢ 0 (row_of b tag q)) < weights (dropˢ i (row_of b tag p))
     unfolding weight dropˢ
-    last-falls = omega (arith, (lighter (dropˢ i (row_of b tag p)) _ _ ((at_last e h.turned).is tag)).0)
+    last_falls = omega (arith, (lighter (dropˢ i (row_of b tag p)) _ _ ((at_last e h.turned).is tag)).0)
 
-    pub last-ready : ReadyRow b q
-    last-ready = record { promise = h.ready.promise; fine = (at_last e h.turned).fine }
+    pub last_ready : ReadyRow b q
+    last_ready = record { promise = h.ready.promise; fine = (at_last e h.turned).fine }
 
     pub last_more : {x : List ℕ} {r n' pending' : ℕ} {t' : Turn} → WroteIn newlines at (open_part i) free x r → length x ≡ length free → n' ≡ min (n + r) MOST
         → pending' ≡ min (pending + 1) MOST → Turned b q 0 t' → Standing b tag newlines indent row o (joined k o1 x) q 0 at pending' n' t'
     unfolding open_part dropˢ
     last_more {x} {r} {n'} {pending'} w same en ep h' =
-        record { ready = last-ready; turned = h'; progress = go; light = omega (arith, last-falls, h.light); same = still x same }
+        record { ready = last_ready; turned = h'; progress = go; light = omega (arith, last_falls, h.light); same = still x same }
       where
         go : (c : SExprPrintConfig) → Shows newlines indent c → Progress b tag newlines row c o (joined k o1 x) q 0 at pending' n'
         go c s =
             let g = h.progress c s in
-            let one = one-part i (dropˢ i (row_of b tag p)) _ _ g.layout ((at_last e h.turned).is tag)
+            let one = one_part i (dropˢ i (row_of b tag p)) _ _ g.layout ((at_last e h.turned).is tag)
             ∙ ap (λ (z : Text). lead i g.layout ++ z ++ parts_from (i + 1) []ˢ (layout_behind i g.layout)) (opened (row_of b tag q) g.layout)
             ∙ ap (λ (z : Text). lead i g.layout ++ (ascii "(" ++ (parts_from 0 (row_of b tag q) g.layout ++ ascii ")")) ++ z) (no_part (i + 1) []ˢ (layout_behind i g.layout) refl) in
             record {
@@ -243,20 +243,20 @@ module _ {b : Book} {tag : ℕ} {newlines : Bool} {indent : ℕ} {row : SRow} {o
 -- ToString.
 
 module _ (b : Book) {e : code.SExpr} where
-  pub ready-name : {n : SName} → e ≡ value.S n → ReadyExpr b e → ReadyName b n
+  pub ready_name : {n : SName} → e ≡ value.S n → ReadyExpr b e → ReadyName b n
   unfolding Fine
-  ready-name h r = record { promise = r.promise; fine = subst (Fine b) h r.fine }
+  ready_name h r = record { promise = r.promise; fine = subst (Fine b) h r.fine }
 
-  pub ready-row : {p : SRow} → e ≡ value.PP p → ReadyExpr b e → ReadyRow b p
+  pub ready_row : {p : SRow} → e ≡ value.PP p → ReadyExpr b e → ReadyRow b p
   unfolding Fine
-  ready-row h r = record { promise = r.promise; fine = subst (Fine b) h r.fine }
+  ready_row h r = record { promise = r.promise; fine = subst (Fine b) h r.fine }
 
   module _ (tag : ℕ) {indent : ℕ} {newlines : Bool} {o o1 : List ℕ} where
-    pub expr-name : {n : SName} {r : ℕ} → e ≡ value.S n → Wrote (name_to_string (text_of b tag n)) o o1 r → WroteIn newlines indent (expr_text b tag e) o o1 r
+    pub expr_name : {n : SName} {r : ℕ} → e ≡ value.S n → Wrote (name_to_string (text_of b tag n)) o o1 r → WroteIn newlines indent (expr_text b tag e) o o1 r
     unfolding expr_text meaning to_string
-    expr-name h w = rw h (record { wrote = λ c s. w })
+    expr_name h w = rw h (record { wrote = λ c s. w })
 
-    pub expr-row : {p : SRow} {x : List ℕ} {r1 k r2 r : ℕ} → length o < MOST + 1 → e ≡ value.PP p → Wrote (ascii "(") o o1 r1 → k ≡ min r1 (length o1)
+    pub expr_row : {p : SRow} {x : List ℕ} {r1 k r2 r : ℕ} → length o < MOST + 1 → e ≡ value.PP p → Wrote (ascii "(") o o1 r1 → k ≡ min r1 (length o1)
         → WroteIn newlines indent (row_text b tag p) (take (length o1 - k) (drop k o1)) x r2 → r ≡ min (r1 + r2) MOST → WroteIn newlines indent (expr_text b tag e) o (joined k o1 x) r
     unfolding expr_text meaning row_text
-    expr-row {p} short h w1 ek w2 er = rw h (record { wrote = λ c s. wrote_as (sym (opened (row_of b tag p) c)) (wrote_then short w1 ek (w2.wrote c s) er) })
+    expr_row {p} short h w1 ek w2 er = rw h (record { wrote = λ c s. wrote_as (sym (opened (row_of b tag p) c)) (wrote_then short w1 ek (w2.wrote c s) er) })

@@ -20,10 +20,10 @@ get_d_some [] k d h = absurd (omega arith)
 get_d_some (x ∷ xs) zero d h = refl
 get_d_some (x ∷ xs) (suc k) d h = get_d_some xs k d (omega arith)
 
-get_or-none : {A : Type 0} (xs : List A) (k : ℕ) → length xs ≤ k → get_or (map some xs) k none ≡ none
-get_or-none [] k h = refl
-get_or-none (x ∷ xs) zero h = absurd (omega arith)
-get_or-none (x ∷ xs) (suc k) h = get_or-none xs k (omega arith)
+get_or_none : {A : Type 0} (xs : List A) (k : ℕ) → length xs ≤ k → get_or (map some xs) k none ≡ none
+get_or_none [] k h = refl
+get_or_none (x ∷ xs) zero h = absurd (omega arith)
+get_or_none (x ∷ xs) (suc k) h = get_or_none xs k (omega arith)
 
 module _ (x : List ℕ) where
   abbrev Named : ℕ → Printed → List ℕ → Type 0
@@ -37,11 +37,11 @@ module _ (x : List ℕ) where
       let g : Answered (fitting (length x) (operator_name k)) r x x1 = rw j at f in
       rw (get_d_some operators k Equiv (omega arith)) (g.answer, g.text)
 
-  pub no-name-low : {n : ℕ} → n < 1 → Named n (answer.Refused NoOperator) x
+  pub no_name_low : {n : ℕ} → n < 1 → Named n (answer.Refused NoOperator) x
   unfolding operator_call operator_text operator_of map_outcome buffer_after printed_value number
-  no-name-low {n} h = let z : n ≡ 0 = omega arith in rw z (refl, refl)
+  no_name_low {n} h = let z : n ≡ 0 = omega arith in rw z (refl, refl)
 
-  pub no-name-high : (n : ℕ) → suc operator_count ≤ n → Named n (answer.Refused NoOperator) x
+  pub no_name_high : (n : ℕ) → suc operator_count ≤ n → Named n (answer.Refused NoOperator) x
   unfolding operator_call operator_text operator_of map_outcome buffer_after printed_value number
-  no-name-high zero h = absurd (omega arith)
-  no-name-high (suc k) h = rw (get_or-none operators k (omega arith)) (refl, refl)
+  no_name_high zero h = absurd (omega arith)
+  no_name_high (suc k) h = rw (get_or_none operators k (omega arith)) (refl, refl)

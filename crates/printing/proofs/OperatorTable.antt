@@ -11,7 +11,7 @@ use Rattle.basics.specs.Text.{Text, ascii, same}
 use Rattle.basics.specs.Lists.{all_below}
 use Rattle.basics.proofs.Bool.{and_both}
 use Rattle.basics.proofs.Counting.{below_each}
-use Rattle.basics.proofs.Texts.{same-eq}
+use Rattle.basics.proofs.Texts.{same_eq}
 use Rattle.solver_expr.specs.Operators.{operator_to_string}
 use Rattle.printing.specs.Calls.{operator_count, operator_name}
 
@@ -44,12 +44,12 @@ module _ (k : ℕ) (h : k < operator_count) where
   pub short : get_or lengths k 0 ≤ width
   short = leb-true (get_or lengths k 0) width checked.0
 
-  pub name-is : entry k ≡ operator_name k
-  name-is = same-eq (entry k) (operator_name k) checked.1
+  pub name_is : entry k ≡ operator_name k
+  name_is = same_eq (entry k) (operator_name k) checked.1
 
   pub name-length : get_or lengths k 0 ≡ length (operator_name k)
-  name-length = let n : length bytes ≡ 42 = unfold bytes in refl in rw (← name-is, length-take, length-drop) (omega (arith, short))
+  name-length = let n : length bytes ≡ 42 = unfold bytes in refl in rw (← name_is, length-take, length-drop) (omega (arith, short))
 
   -- what the code lends of the table
   pub lent : take (width * k + get_or lengths k 0 - width * k) (drop (width * k) bytes) ≡ operator_name k
-  lent = let e : width * k + get_or lengths k 0 - width * k ≡ get_or lengths k 0 = omega arith in rw e name-is
+  lent = let e : width * k + get_or lengths k 0 - width * k ≡ get_or lengths k 0 = omega arith in rw e name_is

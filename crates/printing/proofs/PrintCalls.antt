@@ -6,31 +6,31 @@ use mathlib.Core.List.{List, [], ◌++◌}
 use mathlib.Core.Bool.{Bool}
 use lib.ListN.{length}
 use Rattle.basics.specs.Write.{MOST, Wrote}
-use Rattle.basics.proofs.Laws.{wrote-nowhere}
+use Rattle.basics.proofs.Laws.{wrote_nowhere}
 use Rattle.book.specs.declared.Refusal.TheVariants.{BufferTooShort}
 use Rattle.book.specs.Book.{Book}
 use Rattle.solver_expr.specs.SolverExpr.{SExpr, to_string}
 use Rattle.solver_expr.specs.Print.{fitting, Answered}
-use Rattle.solver_expr.proofs.Answers.{fitted-done, fitted-long}
+use Rattle.solver_expr.proofs.Answers.{fitted_done, fitted_long}
 use Rattle.solver_expr.specs.Values.{term_of, Lowered}
 use Rattle.solver_expr.specs.declared.SExpr as code
 use Rattle.solver_expr.specs.declared.Printed.TheVariants as answer
 use Rattle.printer.specs.Printing.{WroteIn, expr_text}
 use Rattle.printing.specs.Calls.{layout_of, term_text}
 
-pub term-wrote : {b : Book} {t : ℕ} {e : code.SExpr} {newlines : Bool} {indent : ℕ} {o o1 : List ℕ} {r : ℕ} (tag : ℕ) → Lowered b t e → indent < MOST + 1
+pub term_wrote : {b : Book} {t : ℕ} {e : code.SExpr} {newlines : Bool} {indent : ℕ} {o o1 : List ℕ} {r : ℕ} (tag : ℕ) → Lowered b t e → indent < MOST + 1
     → WroteIn newlines indent (expr_text b tag e) o o1 r → Wrote (term_text b t tag newlines indent) o o1 r
 unfolding expr_text term_text term_of
-term-wrote {b} {t} {e} {newlines} {indent} {o} {o1} {r} tag l small w =
+term_wrote {b} {t} {e} {newlines} {indent} {o} {o1} {r} tag l small w =
     subst (λ (s : SExpr). Wrote (to_string s (layout_of newlines indent)) o o1 r) (l.is tag)
     (w.wrote (layout_of newlines indent) (record { lines = refl; spaces = omega arith }))
 
 module _ {t o p : List ℕ} {n : ℕ} (w : Wrote t [] p n) where
   untouched : p ++ o ≡ o
-  untouched = rw (wrote-nowhere w)
+  untouched = rw (wrote_nowhere w)
 
-  pub measured-long : length (p ++ o) < n → Answered (fitting (length o) t) (answer.Refused BufferTooShort) o (p ++ o)
-  measured-long h = rw untouched (fitted-long t (omega (arith, w.counted, ap length untouched)))
+  pub measured_long : length (p ++ o) < n → Answered (fitting (length o) t) (answer.Refused BufferTooShort) o (p ++ o)
+  measured_long h = rw untouched (fitted_long t (omega (arith, w.counted, ap length untouched)))
 
-  pub measured-done : {o1 : List ℕ} {m : ℕ} → length o < MOST → n ≤ length (p ++ o) → Wrote t (p ++ o) o1 m → Answered (fitting (length o) t) (answer.Text n) o o1
-  measured-done short h v = fitted-done (omega (arith, w.counted, ap length untouched)) (omega (arith, ap length untouched)) (rw untouched at v)
+  pub measured_done : {o1 : List ℕ} {m : ℕ} → length o < MOST → n ≤ length (p ++ o) → Wrote t (p ++ o) o1 m → Answered (fitting (length o) t) (answer.Text n) o o1
+  measured_done short h v = fitted_done (omega (arith, w.counted, ap length untouched)) (omega (arith, ap length untouched)) (rw untouched at v)

@@ -27,18 +27,18 @@ node_at (n ∷ []) (suc i) l = absurd (omega arith)
 node_at (n ∷ g ∷ rest) zero l = refl
 node_at (n ∷ g ∷ rest) (suc i) l = simp unary_clauses (node_at rest i (omega arith))
 
-pub goal-at : (ns : List ℕ) (i : ℕ) → 2 * i + 1 < length ns → get_or ns (2 * i + 1) 0 ≡ (question_at (questions_of ns) i).goal
+pub goal_at : (ns : List ℕ) (i : ℕ) → 2 * i + 1 < length ns → get_or ns (2 * i + 1) 0 ≡ (question_at (questions_of ns) i).goal
 unfolding questions_of question_at
-goal-at [] i l = absurd (omega arith)
-goal-at (n ∷ []) i l = absurd (omega arith)
-goal-at (n ∷ g ∷ rest) zero l = refl
-goal-at (n ∷ g ∷ rest) (suc i) l = simp unary_clauses (simp unary_clauses at (goal-at rest i (omega arith)))
+goal_at [] i l = absurd (omega arith)
+goal_at (n ∷ []) i l = absurd (omega arith)
+goal_at (n ∷ g ∷ rest) zero l = refl
+goal_at (n ∷ g ∷ rest) (suc i) l = simp unary_clauses (simp unary_clauses at (goal_at rest i (omega arith)))
 
 -- one without its goal is the last
-pub goal-cut : (ns : List ℕ) (i : ℕ) → i < length (questions_of ns) → length ns ≤ 2 * i + 1 → cut_number ≡ (question_at (questions_of ns) i).goal
+pub goal_cut : (ns : List ℕ) (i : ℕ) → i < length (questions_of ns) → length ns ≤ 2 * i + 1 → cut_number ≡ (question_at (questions_of ns) i).goal
 unfolding questions_of question_at
-goal-cut [] i l h = absurd (omega arith)
-goal-cut (n ∷ []) zero l h = refl
-goal-cut (n ∷ []) (suc i) l h = absurd (omega arith)
-goal-cut (n ∷ g ∷ rest) zero l h = absurd (omega arith)
-goal-cut (n ∷ g ∷ rest) (suc i) l h = goal-cut rest i (omega arith) (omega arith)
+goal_cut [] i l h = absurd (omega arith)
+goal_cut (n ∷ []) zero l h = refl
+goal_cut (n ∷ []) (suc i) l h = absurd (omega arith)
+goal_cut (n ∷ g ∷ rest) zero l h = absurd (omega arith)
+goal_cut (n ∷ g ∷ rest) (suc i) l h = goal_cut rest i (omega arith) (omega arith)

@@ -18,57 +18,57 @@ use Rattle.solvers.specs.declared.Session.{Session}
 use Rattle.solvers.specs.Session.{Proved, Unproved, closed, is_unsat, replied, give_reply, give_model}
 use Rattle.solvers.specs.Calls.{owes, is_session, reason_of, fitting}
 use Rattle.solvers.specs.Returned.{lent, Given}
-use Rattle.solvers.proofs.Returned.{given-refused, given-any}
+use Rattle.solvers.proofs.Returned.{given_refused, given_any}
 use Rattle.replies.specs.Replies.{reason_text, reply_in, model_owed, model_in}
 
-model-closes : (s : Session) (reply : Text) (model : Option Text) → give_model s reply model ≡ closed s (Unproved (reason_text reply model))
+model_closes : (s : Session) (reply : Text) (model : Option Text) → give_model s reply model ≡ closed s (Unproved (reason_text reply model))
 unfolding give_model reason_text
-model-closes s reply none = refl
-model-closes s reply (some model) = refl
+model_closes s reply none = refl
+model_closes s reply (some model) = refl
 
 module _ (s : Session) (t e : List ℕ) {r : Called} where
   -- a reply that is owed
 
-  pub check-failed : {t' e' : List ℕ} (ok : Bool) (error : Text) → not ok ≡ true → Given (fitting (lent [] t e) (closed s (Unproved (reason_text error none)))) s r t t' e e'
+  pub check_failed : {t' e' : List ℕ} (ok : Bool) (error : Text) → not ok ≡ true → Given (fitting (lent [] t e) (closed s (Unproved (reason_text error none)))) s r t t' e e'
       → Given (fitting (lent [] t e) (give_reply s ok error)) s r t t' e e'
   unfolding give_reply reason_text
-  check-failed ok error h g = rw (not-true ok h) g
+  check_failed ok error h g = rw (not-true ok h) g
 
   module _ (ok : Bool) (reply : Text) (h : not ok ≡ false) where
-    pub goal-proved : {t' : List ℕ} → is_unsat reply ≡ true → Given (fitting (lent [] t []) (closed s Proved)) s r t t' [] []
+    pub goal_proved : {t' : List ℕ} → is_unsat reply ≡ true → Given (fitting (lent [] t []) (closed s Proved)) s r t t' [] []
         → Given (fitting (lent [] t e) (give_reply s ok reply)) s r t t' e e
     unfolding give_reply replied closed reason_of
-    goal-proved u g = rw (not-false ok h, u) (given-any (closed s Proved) refl s t e g)
+    goal_proved u g = rw (not-false ok h, u) (given_any (closed s Proved) refl s t e g)
 
-    pub model-asked : {t' : List ℕ} → is_unsat reply ≡ false → Given (fitting (lent [] t []) (replied false s)) s r t t' [] []
+    pub model_asked : {t' : List ℕ} → is_unsat reply ≡ false → Given (fitting (lent [] t []) (replied false s)) s r t t' [] []
         → Given (fitting (lent [] t e) (give_reply s ok reply)) s r t t' e e
     unfolding give_reply replied reason_of
-    model-asked u g = rw (not-false ok h, u) (given-any (replied false s) refl s t e g)
+    model_asked u g = rw (not-false ok h, u) (given_any (replied false s) refl s t e g)
 
   -- a model that is owed
   module _ (reply : Text) (model : Option Text) where
-    pub reply-unsat : is_unsat reply ≡ true → r ≡ record { answer = answer.Refused ReplyIsUnsat; session = s }
+    pub reply_unsat : is_unsat reply ≡ true → r ≡ record { answer = answer.Refused ReplyIsUnsat; session = s }
         → Given (model_owed s (lent [] t e) reply model) s r t t e e
     unfolding model_owed refuse ◌>>◌ number
-    reply-unsat u q = rw q (given-refused (model_owed s (lent [] t e) reply model) ReplyIsUnsat s t e (rw u))
+    reply_unsat u q = rw q (given_refused (model_owed s (lent [] t e) reply model) ReplyIsUnsat s t e (rw u))
 
-    pub model-given : {t' e' : List ℕ} → is_unsat reply ≡ false → Given (fitting (lent [] t e) (closed s (Unproved (reason_text reply model)))) s r t t' e e'
+    pub model_given : {t' e' : List ℕ} → is_unsat reply ≡ false → Given (fitting (lent [] t e) (closed s (Unproved (reason_text reply model)))) s r t t' e e'
         → Given (model_owed s (lent [] t e) reply model) s r t t' e e'
     unfolding model_owed refuse ◌>>◌
-    model-given u g = rw (u, model-closes s reply model) g
+    model_given u g = rw (u, model_closes s reply model) g
 
   -- the session, and what it owes
   module _ (b : Book) where
     module _ (ok : Bool) (reply : Text) where
-      pub reply-outside : is_session (program b) s ≡ false → r ≡ record { answer = answer.Refused NoSession; session = s }
+      pub reply_outside : is_session (program b) s ≡ false → r ≡ record { answer = answer.Refused NoSession; session = s }
           → Given (reply_in b s (lent [] t e) ok reply) s r t t e e
       unfolding reply_in refuse ◌>>◌ number
-      reply-outside h q = rw q (given-refused (reply_in b s (lent [] t e) ok reply) NoSession s t e (rw h))
+      reply_outside h q = rw q (given_refused (reply_in b s (lent [] t e) ok reply) NoSession s t e (rw h))
 
-      pub reply-not-owed : is_session (program b) s ≡ true → owes s.owed Reply ≡ false → r ≡ record { answer = answer.Refused NoReplyOwed; session = s }
+      pub reply_not_owed : is_session (program b) s ≡ true → owes s.owed Reply ≡ false → r ≡ record { answer = answer.Refused NoReplyOwed; session = s }
           → Given (reply_in b s (lent [] t e) ok reply) s r t t e e
       unfolding reply_in refuse ◌>>◌ number
-      reply-not-owed h o q = rw q (given-refused (reply_in b s (lent [] t e) ok reply) NoReplyOwed s t e (rw (h, o)))
+      reply_not_owed h o q = rw q (given_refused (reply_in b s (lent [] t e) ok reply) NoReplyOwed s t e (rw (h, o)))
 
       pub reply-owed : {t' e' : List ℕ} → is_session (program b) s ≡ true → owes s.owed Reply ≡ true → Given (fitting (lent [] t e) (give_reply s ok reply)) s r t t' e e'
           → Given (reply_in b s (lent [] t e) ok reply) s r t t' e e'
@@ -76,15 +76,15 @@ module _ (s : Session) (t e : List ℕ) {r : Called} where
       reply-owed h o g = rw (h, o) g
 
     module _ (reply : Text) (model : Option Text) where
-      pub model-outside : is_session (program b) s ≡ false → r ≡ record { answer = answer.Refused NoSession; session = s }
+      pub model_outside : is_session (program b) s ≡ false → r ≡ record { answer = answer.Refused NoSession; session = s }
           → Given (model_in b s (lent [] t e) reply model) s r t t e e
       unfolding model_in refuse ◌>>◌ number
-      model-outside h q = rw q (given-refused (model_in b s (lent [] t e) reply model) NoSession s t e (rw h))
+      model_outside h q = rw q (given_refused (model_in b s (lent [] t e) reply model) NoSession s t e (rw h))
 
-      pub model-not-owed : is_session (program b) s ≡ true → owes s.owed Model ≡ false → r ≡ record { answer = answer.Refused NoModelOwed; session = s }
+      pub model_not_owed : is_session (program b) s ≡ true → owes s.owed Model ≡ false → r ≡ record { answer = answer.Refused NoModelOwed; session = s }
           → Given (model_in b s (lent [] t e) reply model) s r t t e e
       unfolding model_in refuse ◌>>◌ number
-      model-not-owed h o q = rw q (given-refused (model_in b s (lent [] t e) reply model) NoModelOwed s t e (rw (h, o)))
+      model_not_owed h o q = rw q (given_refused (model_in b s (lent [] t e) reply model) NoModelOwed s t e (rw (h, o)))
 
       pub model-owed : {t' e' : List ℕ} → is_session (program b) s ≡ true → owes s.owed Model ≡ true → Given (model_owed s (lent [] t e) reply model) s r t t' e e'
           → Given (model_in b s (lent [] t e) reply model) s r t t' e e'

@@ -8,21 +8,21 @@ use borrow.Author.Tests.{not-true, not-false}
 use Rattle.basics.specs.Text.{Text, newline, given}
 use Rattle.basics.specs.Write.{MOST, Wrote, WroteAt}
 use Rattle.basics.proofs.Laws.{wrote_as}
-use Rattle.basics.proofs.Places.{at-then, at-as}
+use Rattle.basics.proofs.Places.{at_then, at_as}
 use Rattle.smt_engines.specs.Command.{Pop, script}
-use Rattle.smt_engines.proofs.Hearing.{script-append}
+use Rattle.smt_engines.proofs.Hearing.{script_append}
 use Rattle.replies.specs.Replies.{reason_text}
 
-pub pops-wrote : {o o1 o2 : List ℕ} {r1 r : ℕ} → length o < MOST + 1 → WroteAt (script (Pop ∷ [])) 0 o o1 r1 → WroteAt (script (Pop ∷ [])) r1 o1 o2 r
+pub pops_wrote : {o o1 o2 : List ℕ} {r1 r : ℕ} → length o < MOST + 1 → WroteAt (script (Pop ∷ [])) 0 o o1 r1 → WroteAt (script (Pop ∷ [])) r1 o1 o2 r
     → WroteAt (script (Pop ∷ Pop ∷ [])) 0 o o2 r
-pops-wrote short w1 w2 = at-as (sym (script-append (Pop ∷ []) (Pop ∷ []))) (at-then short w1 w2)
+pops_wrote short w1 w2 = at_as (sym (script_append (Pop ∷ []) (Pop ∷ []))) (at_then short w1 w2)
 
-pub reply-alone : {reply o o1 : List ℕ} {r : ℕ} (came : Bool) (model : Text) → not came ≡ true → Wrote reply o o1 r
+pub reply_alone : {reply o o1 : List ℕ} {r : ℕ} (came : Bool) (model : Text) → not came ≡ true → Wrote reply o o1 r
     → Wrote (reason_text reply (given came model)) o o1 r
 unfolding reason_text given
-reply-alone came model e w = rw (not-true came e) w
+reply_alone came model e w = rw (not-true came e) w
 
-pub reply-and-model : {o o1 : List ℕ} {r : ℕ} (reply : Text) (came : Bool) (model : Text) → not came ≡ false → Wrote (reply ++ (newline ∷ []) ++ model) o o1 r
+pub reply_and_model : {o o1 : List ℕ} {r : ℕ} (reply : Text) (came : Bool) (model : Text) → not came ≡ false → Wrote (reply ++ (newline ∷ []) ++ model) o o1 r
     → Wrote (reason_text reply (given came model)) o o1 r
 unfolding reason_text given
-reply-and-model reply came model e w = rw (not-false came e) (wrote_as (append_assoc reply (newline ∷ []) model) w)
+reply_and_model reply came model e w = rw (not-false came e) (wrote_as (append_assoc reply (newline ∷ []) model) w)

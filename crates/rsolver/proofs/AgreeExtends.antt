@@ -10,26 +10,26 @@ use Rattle.rsolver.specs.LevelState.{LevelState}
 use Rattle.rsolver.specs.SolverState.{StackItem, SolverState}
 use Rattle.book.specs.Extends.{Extends}
 use Rattle.rsolver.proofs.Agree.{Matches, Stacked, bottom, above, Agree}
-use Rattle.rsolver.proofs.Unmarked.{Unmarked, forget-unmarked, names-grown}
+use Rattle.rsolver.proofs.Unmarked.{Unmarked, forget_unmarked, names_grown}
 
 module _ {p q : Program} (x : Extends p q) where
-  matches-grown : {ls : List ℕ} {d : List Marker} {n : List Text} → Unmarked p ls → Matches p ls d n → Matches q ls d n
-  matches-grown u M = record { declared = M.declared; names = λ name. names-grown u x name ∙ M.names name; counted = M.counted }
+  matches_grown : {ls : List ℕ} {d : List Marker} {n : List Text} → Unmarked p ls → Matches p ls d n → Matches q ls d n
+  matches_grown u M = record { declared = M.declared; names = λ name. names_grown u x name ∙ M.names name; counted = M.counted }
 
-  stacked-grown : {ls : List ℕ} {items : List StackItem} → Unmarked p ls → Stacked p ls items → Stacked q ls items
-  stacked-grown u bottom = bottom
-  stacked-grown u (above {items = items} M S) =
-      let v = forget-unmarked u (suc (length items)) in
-      above (matches-grown v M) (stacked-grown v S)
+  stacked_grown : {ls : List ℕ} {items : List StackItem} → Unmarked p ls → Stacked p ls items → Stacked q ls items
+  stacked_grown u bottom = bottom
+  stacked_grown u (above {items = items} M S) =
+      let v = forget_unmarked u (suc (length items)) in
+      above (matches_grown v M) (stacked_grown v S)
 
-  pub agree-grown : {s : LevelState} {t : SolverState} → Unmarked p s.levels → Agree p s t → Agree q s t
-  agree-grown u a =
+  pub agree_grown : {s : LevelState} {t : SolverState} → Unmarked p s.levels → Agree p s t → Agree q s t
+  agree_grown u a =
       record {
         memos = a.memos;
         missing = a.missing;
         sent = a.sent;
         wide = a.wide;
         within = a.within;
-        here = matches-grown u a.here;
-        below = stacked-grown u a.below;
+        here = matches_grown u a.here;
+        below = stacked_grown u a.below;
       }

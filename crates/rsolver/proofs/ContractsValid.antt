@@ -17,13 +17,13 @@ use Rattle.book.proofs.Every.{EveryRs, EveryPs, EveryTerm}
 use Rattle.solver_expr.proofs.Clean.{CleanType, CleanConstant, CleanFunction, CleanLiteral, CleanOperator, cleanly, CleanR}
 use Rattle.smt_engines.specs.Command.{Command, Push, Pop, CheckSat, GetModel, command_to_string, script}
 use Rattle.smt_engines.specs.Reader.{cut, lines, Stack, first, over, height, live, Kind, join, hear_kind, hear, hear_all, read}
-use Rattle.smt_engines.proofs.Commands.{Plain, plain-assume, plain-assume-not, plain-sort, plain-constant, plain-function, plain-literal}
-use Rattle.smt_engines.proofs.Hearing.{Whole, hears, hears-append, hears-push, hears-pop, hears-check, hears-model, whole-push, whole-pop, whole-check, whole-model, read-script}
+use Rattle.smt_engines.proofs.Commands.{Plain, plain_assume, plain_assume_not, plain_sort, plain_constant, plain_function, plain_literal}
+use Rattle.smt_engines.proofs.Hearing.{Whole, hears, hears_append, hears_push, hears_pop, hears_check, hears_model, whole_push, whole_pop, whole_check, whole_model, read_script}
 use Rattle.rsolver.specs.Step.{Step, skip, ◌⨟◌, for, do_unless, unless}
 use Rattle.rsolver.specs.Methods.{Marker}
 use Rattle.rsolver.specs.SolverState.{StackItem, SolverState, new_solver, pushed, pop_to, popped, told, marked, named, missed, bodies, Valid}
 use Rattle.rsolver.specs.REngine.{with_constants, declare_type, declare_constant, declare_function, declare_literal, assume, assume_not, check, ask_model, end_check, declare_new_types, declare_type_of, send_axiom, include_axiom, declare_operator, declare_symbols, declare_all_symbols, declare_pattern_symbols, walk, declare_new_symbols, enter, adjust_context, set_context, ask_goal, close_goal}
-use Rattle.rsolver.proofs.ContractsContext.{pop-length, ask-length, adjust-keeps, set_keeps}
+use Rattle.rsolver.proofs.ContractsContext.{pop_length, ask_length, adjust_keeps, set_keeps}
 
 -- Valid, and each command so far is one line
 pub record ValidLines (inner : ℕ) (s : SolverState) : Type 0 where
@@ -34,7 +34,7 @@ pub record ValidLines (inner : ℕ) (s : SolverState) : Type 0 where
 reads_more : (cs : List Command) (c : Command) (st st' : Stack) → All Whole cs → Whole c → read (script cs) ≡ live st
     → hears (live st) (c ∷ []) ≡ live st' → read (script (cs ++ (c ∷ []))) ≡ live st'
 reads_more cs c st st' hs h r e =
-    read-script (all_append hs (more h end)) ∙ hears-append (live (first [])) cs (c ∷ []) ∙ ap (λ x. hears x (c ∷ [])) (sym (read-script hs) ∙ r) ∙ e
+    read_script (all_append hs (more h end)) ∙ hears_append (live (first [])) cs (c ∷ []) ∙ ap (λ x. hears x (c ∷ [])) (sym (read_script hs) ∙ r) ∙ e
 
 sends : {n : ℕ} {s : SolverState} (v : ValidLines n s) (c : Command) → Whole c → (st : Stack) → hears (live v.valid.command_stacks) (c ∷ []) ≡ live st
     → (m : ℕ) (t : SolverState) → t.sent ≡ s.sent ++ (c ∷ []) → height st ≡ m + suc (length t.stack) → ValidLines m t
@@ -49,60 +49,60 @@ sends {s = s} v c h st e m t k l =
       wholes = rw k (all_append v.wholes (more h end));
     }
 
-hears-one : (c : Command) → Plain c → (st : Stack) → hears (live st) (c ∷ []) ≡ live (join st (command_to_string c ∷ []))
+hears_one : (c : Command) → Plain c → (st : Stack) → hears (live st) (c ∷ []) ≡ live (join st (command_to_string c ∷ []))
 unfolding hears hear_all hear hear_kind lines
-hears-one c h st = ap (λ (k : Kind). hear_kind k (command_to_string c) st) h.joins
+hears_one c h st = ap (λ (k : Kind). hear_kind k (command_to_string c) st) h.joins
 
-join-height : (st : Stack) (l : List Text) → height (join st l) ≡ height st
+join_height : (st : Stack) (l : List Text) → height (join st l) ≡ height st
 unfolding join height
-join-height (first k) l = refl
-join-height (over k st) l = refl
+join_height (first k) l = refl
+join_height (over k st) l = refl
 
 -- ---- Solvers.dfy
-pub new-valid : ValidLines 0 new_solver
+pub new_valid : ValidLines 0 new_solver
 unfolding new_solver script read cut hear_all height
-new-valid = record { valid = record { command_stacks = first []; reads = refl; lengths = refl }; wholes = end }
+new_valid = record { valid = record { command_stacks = first []; reads = refl; lengths = refl }; wholes = end }
 
-pub push-valid : (memo : ℕ) (s : SolverState) → ValidLines 0 s → ValidLines 0 (pushed memo s)
+pub push_valid : (memo : ℕ) (s : SolverState) → ValidLines 0 s → ValidLines 0 (pushed memo s)
 unfolding pushed height
-push-valid memo s v =
+push_valid memo s v =
     let st = v.valid.command_stacks in
-    sends v Push whole-push (over (lines []) st) (hears-push st end) 0 (pushed memo s) refl (omega (arith, v.valid.lengths))
+    sends v Push whole_push (over (lines []) st) (hears_push st end) 0 (pushed memo s) refl (omega (arith, v.valid.lengths))
 
-pop-sent : (s : SolverState) → (popped s).sent ≡ s.sent ++ (Pop ∷ [])
+pop_sent : (s : SolverState) → (popped s).sent ≡ s.sent ++ (Pop ∷ [])
 unfolding popped pop_to
-pop-sent s = at s.stack
+pop_sent s = at s.stack
   where
     at : (items : List StackItem) → (pop_to items s).sent ≡ s.sent ++ (Pop ∷ [])
     at [] = refl
     at (item ∷ items) = refl
 
 -- of a stack that is not empty
-pub pop-valid : (s : SolverState) → 0 < length s.stack → ValidLines 0 s → ValidLines 0 (popped s)
+pub pop_valid : (s : SolverState) → 0 < length s.stack → ValidLines 0 s → ValidLines 0 (popped s)
 unfolding height
-pop-valid s h v = at v.valid.command_stacks refl
+pop_valid s h v = at v.valid.command_stacks refl
   where
     at : (st : Stack) → v.valid.command_stacks ≡ st → ValidLines 0 (popped s)
     at (first l) e = absurd (omega (arith, v.valid.lengths, ap height e))
     at (over l st) e =
-        sends v Pop whole-pop st (ap (λ x. hears (live x) (Pop ∷ [])) e ∙ hears-pop l st) 0 (popped s) (pop-sent s)
-        (omega (arith, v.valid.lengths, ap height e, pop-length s))
+        sends v Pop whole_pop st (ap (λ x. hears (live x) (Pop ∷ [])) e ∙ hears_pop l st) 0 (popped s) (pop_sent s)
+        (omega (arith, v.valid.lengths, ap height e, pop_length s))
 
 -- DeclareSymbolByName
-pub told-valid : {n : ℕ} (c : Command) → Plain c → (s : SolverState) → ValidLines n s → ValidLines n (told c s)
+pub told_valid : {n : ℕ} (c : Command) → Plain c → (s : SolverState) → ValidLines n s → ValidLines n (told c s)
 unfolding told
-told-valid {n} c h s v =
+told_valid {n} c h s v =
     let st = v.valid.command_stacks in
-    sends v c h.one (join st (command_to_string c ∷ [])) (hears-one c h st) n (told c s) refl (join-height st _ ∙ v.valid.lengths)
+    sends v c h.one (join st (command_to_string c ∷ [])) (hears_one c h st) n (told c s) refl (join_height st _ ∙ v.valid.lengths)
 
 -- AddAssumption
-pub assume-valid : {n : ℕ} (e : RExpr) → CleanR e → (s : SolverState) → ValidLines n s → ValidLines n (assume bodies e s)
+pub assume_valid : {n : ℕ} (e : RExpr) → CleanR e → (s : SolverState) → ValidLines n s → ValidLines n (assume bodies e s)
 unfolding assume
-assume-valid e h s v = told-valid _ (plain-assume e _ h) s v
+assume_valid e h s v = told_valid _ (plain_assume e _ h) s v
 
-assume-not-valid : {n : ℕ} (e : RExpr) → CleanR e → (s : SolverState) → ValidLines n s → ValidLines n (assume_not bodies e s)
+assume_not_valid : {n : ℕ} (e : RExpr) → CleanR e → (s : SolverState) → ValidLines n s → ValidLines n (assume_not bodies e s)
 unfolding assume_not
-assume-not-valid e h s v = told-valid _ (plain-assume-not e _ h) s v
+assume_not_valid e h s v = told_valid _ (plain_assume_not e _ h) s v
 
 -- what is not sent
 unsent : {n : ℕ} {s t : SolverState} → ValidLines n s → t.sent ≡ s.sent → t.stack ≡ s.stack → ValidLines n t
@@ -118,175 +118,175 @@ unsent {n} v e f =
     }
 
 -- AddDeclarationMarker
-pub marker-valid : {n : ℕ} (m : Marker) (s : SolverState) → ValidLines n s → ValidLines n (marked m s)
+pub marker_valid : {n : ℕ} (m : Marker) (s : SolverState) → ValidLines n s → ValidLines n (marked m s)
 unfolding marked
-marker-valid m s v = unsent v refl refl
+marker_valid m s v = unsent v refl refl
 
-name-valid : {n : ℕ} (name : Text) (s : SolverState) → ValidLines n s → ValidLines n (named name s)
+name_valid : {n : ℕ} (name : Text) (s : SolverState) → ValidLines n s → ValidLines n (named name s)
 unfolding named
-name-valid name s v = unsent v refl refl
+name_valid name s v = unsent v refl refl
 
-miss-valid : {n : ℕ} (s : SolverState) → ValidLines n s → ValidLines n (missed s)
+miss_valid : {n : ℕ} (s : SolverState) → ValidLines n s → ValidLines n (missed s)
 unfolding missed
-miss-valid s v = unsent v refl refl
+miss_valid s v = unsent v refl refl
 
-pub declare-type-valid : {n : ℕ} (decl : STypeDecl) → Clean decl.name → (s : SolverState) → ValidLines n s → ValidLines n (declare_type bodies decl s)
+pub declare_type_valid : {n : ℕ} (decl : STypeDecl) → Clean decl.name → (s : SolverState) → ValidLines n s → ValidLines n (declare_type bodies decl s)
 unfolding declare_type ◌⨟◌
-declare-type-valid decl h s v = marker-valid _ _ (told-valid _ (plain-sort decl h) s v)
+declare_type_valid decl h s v = marker_valid _ _ (told_valid _ (plain_sort decl h) s v)
 
 -- DeclareSymbol, of a constant and of a function
-pub declare-constant-valid : {n : ℕ} (c : SConstant) → CleanConstant c → (s : SolverState) → ValidLines n s → ValidLines n (declare_constant bodies c s)
+pub declare_constant_valid : {n : ℕ} (c : SConstant) → CleanConstant c → (s : SolverState) → ValidLines n s → ValidLines n (declare_constant bodies c s)
 unfolding declare_constant ◌⨟◌
-declare-constant-valid c h s v = marker-valid _ _ (told-valid _ (plain-constant c h) s v)
+declare_constant_valid c h s v = marker_valid _ _ (told_valid _ (plain_constant c h) s v)
 
-pub declare-function-valid : {n : ℕ} (f : Function) → CleanFunction f → (s : SolverState) → ValidLines n s → ValidLines n (declare_function bodies f s)
+pub declare_function_valid : {n : ℕ} (f : Function) → CleanFunction f → (s : SolverState) → ValidLines n s → ValidLines n (declare_function bodies f s)
 unfolding declare_function ◌⨟◌
-declare-function-valid f h s v = marker-valid _ _ (told-valid _ (plain-function f h) s v)
+declare_function_valid f h s v = marker_valid _ _ (told_valid _ (plain_function f h) s v)
 
 -- DeclareAdditionalName
-pub declare-literal-valid : {n : ℕ} (t : ℕ) (l : Literal) → CleanLiteral l → (s : SolverState) → ValidLines n s → ValidLines n (declare_literal bodies t l s)
+pub declare_literal_valid : {n : ℕ} (t : ℕ) (l : Literal) → CleanLiteral l → (s : SolverState) → ValidLines n s → ValidLines n (declare_literal bodies t l s)
 unfolding declare_literal ◌⨟◌
-declare-literal-valid t l h s v = name-valid _ _ (told-valid _ (plain-literal l h) s v)
+declare_literal_valid t l h s v = name_valid _ _ (told_valid _ (plain_literal l h) s v)
 
 -- Prove: a level more up to its end
-pub check-valid : (e : RExpr) → CleanR e → (s : SolverState) → ValidLines 0 s → ValidLines 1 (check bodies e s)
+pub check_valid : (e : RExpr) → CleanR e → (s : SolverState) → ValidLines 0 s → ValidLines 1 (check bodies e s)
 unfolding check ◌⨟◌ told height
-check-valid e h s v =
+check_valid e h s v =
     let st = v.valid.command_stacks in
     let inside : ValidLines 1 (told Push s) =
-    sends v Push whole-push (over (lines []) st) (hears-push st end) 1 (told Push s) refl (omega (arith, v.valid.lengths)) in
-    let d = assume-not-valid e h (told Push s) inside in
-    sends d CheckSat whole-check d.valid.command_stacks (hears-check _) 1 _ refl d.valid.lengths
+    sends v Push whole_push (over (lines []) st) (hears_push st end) 1 (told Push s) refl (omega (arith, v.valid.lengths)) in
+    let d = assume_not_valid e h (told Push s) inside in
+    sends d CheckSat whole_check d.valid.command_stacks (hears_check _) 1 _ refl d.valid.lengths
 
-pub model-valid : {n : ℕ} (s : SolverState) → ValidLines n s → ValidLines n (ask_model bodies s)
+pub model_valid : {n : ℕ} (s : SolverState) → ValidLines n s → ValidLines n (ask_model bodies s)
 unfolding ask_model told
-model-valid {n} s v = sends v GetModel whole-model v.valid.command_stacks (hears-model _) n _ refl v.valid.lengths
+model_valid {n} s v = sends v GetModel whole_model v.valid.command_stacks (hears_model _) n _ refl v.valid.lengths
 
-pub end-valid : (s : SolverState) → ValidLines 1 s → ValidLines 0 (end_check bodies s)
+pub end_valid : (s : SolverState) → ValidLines 1 s → ValidLines 0 (end_check bodies s)
 unfolding end_check told height
-end-valid s v = at v.valid.command_stacks refl
+end_valid s v = at v.valid.command_stacks refl
   where
     at : (st : Stack) → v.valid.command_stacks ≡ st → ValidLines 0 (told Pop s)
     at (first l) e = absurd (omega (arith, v.valid.lengths, ap height e))
     at (over l st) e =
-        sends v Pop whole-pop st (ap (λ x. hears (live x) (Pop ∷ [])) e ∙ hears-pop l st) 0 (told Pop s) refl (omega (arith, v.valid.lengths, ap height e))
+        sends v Pop whole_pop st (ap (λ x. hears (live x) (Pop ∷ [])) e ∙ hears_pop l st) 0 (told Pop s) refl (omega (arith, v.valid.lengths, ap height e))
 
 -- ---- RSolver.dfy
-close-valid : (s : SolverState) → 0 < length s.stack → ValidLines 1 s → ValidLines 0 (close_goal bodies s)
+close_valid : (s : SolverState) → 0 < length s.stack → ValidLines 1 s → ValidLines 0 (close_goal bodies s)
 unfolding close_goal ◌⨟◌ end_check told
-close-valid s h v = pop-valid (told Pop s) h (end-valid s v)
+close_valid s h v = pop_valid (told Pop s) h (end_valid s v)
 
 abbrev Keeping : Step SolverState → Type 0
 Keeping f = (s : SolverState) → ValidLines 0 s → ValidLines 0 (f s)
 
-skip-v : Keeping skip
+skip_v : Keeping skip
 unfolding skip
-skip-v s v = v
+skip_v s v = v
 
-then-v : {f g : Step SolverState} → Keeping f → Keeping g → Keeping (f ⨟ g)
+then_v : {f g : Step SolverState} → Keeping f → Keeping g → Keeping (f ⨟ g)
 unfolding ◌⨟◌
-then-v {f} F G s v = G (f s) (F s v)
+then_v {f} F G s v = G (f s) (F s v)
 
-for-v : {A : Type 0} {P : A → Type 0} {xs : List A} {body : A → Step SolverState} → All P xs → ((x : A) → P x → Keeping (body x)) → Keeping (for xs body)
+for_v : {A : Type 0} {P : A → Type 0} {xs : List A} {body : A → Step SolverState} → All P xs → ((x : A) → P x → Keeping (body x)) → Keeping (for xs body)
 unfolding for skip ◌⨟◌
-for-v end h = skip-v
-for-v (more {a = x} k ks) h = then-v (h x k) (for-v ks h)
+for_v end h = skip_v
+for_v (more {a = x} k ks) h = then_v (h x k) (for_v ks h)
 
-any-v : {A : Type 0} (xs : List A) {body : A → Step SolverState} → ((x : A) → Keeping (body x)) → Keeping (for xs body)
+any_v : {A : Type 0} (xs : List A) {body : A → Step SolverState} → ((x : A) → Keeping (body x)) → Keeping (for xs body)
 unfolding for skip ◌⨟◌
-any-v [] h = skip-v
-any-v (x ∷ xs) h = then-v (h x) (any-v xs h)
+any_v [] h = skip_v
+any_v (x ∷ xs) h = then_v (h x) (any_v xs h)
 
-unless-v : (test : SolverState → Bool) {f : Step SolverState} → Keeping f → Keeping (unless test f)
+unless_v : (test : SolverState → Bool) {f : Step SolverState} → Keeping f → Keeping (unless test f)
 unfolding unless do_unless
-unless-v test {f} F s v = at (test s)
+unless_v test {f} F s v = at (test s)
   where
     at : (b : Bool) → ValidLines 0 (do_unless b f s)
     at true = v
     at false = F s v
 
 -- DeclareNewTypes
-pub types-valid : (typ : SType) → CleanType typ → Keeping (declare_new_types bodies typ)
+pub types_valid : (typ : SType) → CleanType typ → Keeping (declare_new_types bodies typ)
 unfolding declare_new_types
-types-valid SBool h = skip-v
-types-valid SInt h = skip-v
-types-valid (SUserType decl) h = unless-v _ (declare-type-valid decl h)
+types_valid SBool h = skip_v
+types_valid SInt h = skip_v
+types_valid (SUserType decl) h = unless_v _ (declare_type_valid decl h)
 
 -- where every axiom's term has such names
 module _ (p : Program) (clean-axioms : (k : ℕ) → EveryTerm cleanly (axiom_at p k).term) where
   module _ (inner : RExpr → List ℕ → Step SolverState) (inner-v : (e : RExpr) (x : List ℕ) → CleanR e → Keeping (inner e x)) where
-    axiom-v : (x : List ℕ) (k : ℕ) (fs : List ℕ) (t : Option RExpr) → EveryTerm cleanly t → Keeping (send_axiom bodies p inner x k fs t)
+    axiom_v : (x : List ℕ) (k : ℕ) (fs : List ℕ) (t : Option RExpr) → EveryTerm cleanly t → Keeping (send_axiom bodies p inner x k fs t)
     unfolding send_axiom
-    axiom-v x k fs none h = miss-valid
-    axiom-v x k fs (some e) h = unless-v _ (then-v (marker-valid _) (then-v (inner-v e [] h) (assume-valid e h)))
+    axiom_v x k fs none h = miss_valid
+    axiom_v x k fs (some e) h = unless_v _ (then_v (marker_valid _) (then_v (inner-v e [] h) (assume_valid e h)))
 
-    operator-v : (op : ROperator) (x : List ℕ) → CleanOperator op → Keeping (declare_operator bodies p inner op x)
+    operator_v : (op : ROperator) (x : List ℕ) → CleanOperator op → Keeping (declare_operator bodies p inner op x)
     unfolding declare_operator include_axiom
-    operator-v (BuiltInOperator n) x h = skip-v
-    operator-v (UserDefinedFunction f) x h =
-        unless-v _
-        (then-v (for-v h.input_types types-valid)
-        (then-v (types-valid f.typ h.typ)
-        (then-v (declare-function-valid f h) (any-v f.explained_by (λ k. axiom-v x k _ _ (clean-axioms k))))))
+    operator_v (BuiltInOperator n) x h = skip_v
+    operator_v (UserDefinedFunction f) x h =
+        unless_v _
+        (then_v (for_v h.input_types types_valid)
+        (then_v (types_valid f.typ h.typ)
+        (then_v (declare_function_valid f h) (any_v f.explained_by (λ k. axiom_v x k _ _ (clean-axioms k))))))
 
     mutual
       unfolding declare_symbols declare_type_of
 
-      symbols-in-v : (e : RExpr) (x : List ℕ) → CleanR e → Keeping (declare_symbols bodies p inner e x)
-      symbols-in-v (Boolean b) x h = skip-v
-      symbols-in-v (Integer n) x h = skip-v
-      symbols-in-v (CustomLiteral t l) x h = unless-v _ (then-v (types-valid l.typ h.typ) (declare-literal-valid t l h))
-      symbols-in-v (Id c) x h = unless-v _ (then-v (types-valid c.typ h.typ) (declare-constant-valid c h))
-      symbols-in-v (FuncAppl op args) x h = then-v (operator-v op x h.0) (all-symbols-v args x h.1)
-      symbols-in-v (IfThenElse g t e) x h = then-v (symbols-in-v g x h.0) (then-v (symbols-in-v t x h.1) (symbols-in-v e x h.2))
-      symbols-in-v (LetExpr c r b) x h =
-          then-v (types-valid c.typ h.0.typ) (then-v (symbols-in-v r x h.1) (symbols-in-v b (c.number ∷ x) h.2))
-      symbols-in-v (QuantifierExpr u vv ps b) x h =
-          then-v (for-v h.0 (λ c k. types-valid c.typ k.typ))
-          (then-v (pattern-symbols-v ps (with_constants vv x) h.1) (symbols-in-v b (with_constants vv x) h.2))
+      symbols_in_v : (e : RExpr) (x : List ℕ) → CleanR e → Keeping (declare_symbols bodies p inner e x)
+      symbols_in_v (Boolean b) x h = skip_v
+      symbols_in_v (Integer n) x h = skip_v
+      symbols_in_v (CustomLiteral t l) x h = unless_v _ (then_v (types_valid l.typ h.typ) (declare_literal_valid t l h))
+      symbols_in_v (Id c) x h = unless_v _ (then_v (types_valid c.typ h.typ) (declare_constant_valid c h))
+      symbols_in_v (FuncAppl op args) x h = then_v (operator_v op x h.0) (all_symbols_v args x h.1)
+      symbols_in_v (IfThenElse g t e) x h = then_v (symbols_in_v g x h.0) (then_v (symbols_in_v t x h.1) (symbols_in_v e x h.2))
+      symbols_in_v (LetExpr c r b) x h =
+          then_v (types_valid c.typ h.0.typ) (then_v (symbols_in_v r x h.1) (symbols_in_v b (c.number ∷ x) h.2))
+      symbols_in_v (QuantifierExpr u vv ps b) x h =
+          then_v (for_v h.0 (λ c k. types_valid c.typ k.typ))
+          (then_v (pattern_symbols_v ps (with_constants vv x) h.1) (symbols_in_v b (with_constants vv x) h.2))
 
-      all-symbols-v : (es : RExprs) (x : List ℕ) → EveryRs cleanly es → Keeping (declare_all_symbols bodies p inner es x)
-      all-symbols-v []ʳ x h = skip-v
-      all-symbols-v (e ∷ʳ es) x h = then-v (symbols-in-v e x h.0) (all-symbols-v es x h.1)
+      all_symbols_v : (es : RExprs) (x : List ℕ) → EveryRs cleanly es → Keeping (declare_all_symbols bodies p inner es x)
+      all_symbols_v []ʳ x h = skip_v
+      all_symbols_v (e ∷ʳ es) x h = then_v (symbols_in_v e x h.0) (all_symbols_v es x h.1)
 
-      pattern-symbols-v : (ps : RPatterns) (x : List ℕ) → EveryPs cleanly ps → Keeping (declare_pattern_symbols bodies p inner ps x)
-      pattern-symbols-v []ᵖ x h = skip-v
-      pattern-symbols-v (q ∷ᵖ ps) x h = then-v (all-symbols-v q x h.0) (pattern-symbols-v ps x h.1)
+      pattern_symbols_v : (ps : RPatterns) (x : List ℕ) → EveryPs cleanly ps → Keeping (declare_pattern_symbols bodies p inner ps x)
+      pattern_symbols_v []ᵖ x h = skip_v
+      pattern_symbols_v (q ∷ᵖ ps) x h = then_v (all_symbols_v q x h.0) (pattern_symbols_v ps x h.1)
 
   -- DeclareNewSymbols, with every `exclude`
-  pub walk-valid : (fuel : ℕ) (e : RExpr) (exclude : List ℕ) → CleanR e → Keeping (walk bodies p fuel e exclude)
+  pub walk_valid : (fuel : ℕ) (e : RExpr) (exclude : List ℕ) → CleanR e → Keeping (walk bodies p fuel e exclude)
   unfolding walk
-  walk-valid zero e x h = skip-v
-  walk-valid (suc fuel) e x h = symbols-in-v _ (λ c y k. walk-valid fuel c y k) e x h
+  walk_valid zero e x h = skip_v
+  walk_valid (suc fuel) e x h = symbols_in_v _ (λ c y k. walk_valid fuel c y k) e x h
 
-  symbols-valid : (e : RExpr) → CleanR e → Keeping (declare_new_symbols bodies p e)
+  symbols_valid : (e : RExpr) → CleanR e → Keeping (declare_new_symbols bodies p e)
   unfolding declare_new_symbols
-  symbols-valid e h = walk-valid _ e [] h
+  symbols_valid e h = walk_valid _ e [] h
 
   module _ (clean-nodes : (n : ℕ) → CleanR (node_at p n).expr) where
-    enter-valid : (node : ℕ) → Keeping (enter bodies p node)
+    enter_valid : (node : ℕ) → Keeping (enter bodies p node)
     unfolding enter
-    enter-valid node =
-        then-v (push-valid node) (then-v (symbols-valid (node_at p node).expr (clean-nodes node)) (assume-valid (node_at p node).expr (clean-nodes node)))
+    enter_valid node =
+        then_v (push_valid node) (then_v (symbols_valid (node_at p node).expr (clean-nodes node)) (assume_valid (node_at p node).expr (clean-nodes node)))
 
     -- AdjustContext
-    pub adjust-valid : (d node : ℕ) → Keeping (adjust_context bodies p d node)
-    adjust-valid d node s v = adjust-keeps p (ValidLines 0) enter-valid pop-valid d node s v
+    pub adjust_valid : (d node : ℕ) → Keeping (adjust_context bodies p d node)
+    adjust_valid d node s v = adjust_keeps p (ValidLines 0) enter_valid pop_valid d node s v
 
     -- SetContext
-    pub set-valid : (node : ℕ) → Keeping (set_context bodies p node)
-    set-valid node s v = set_keeps p (ValidLines 0) enter-valid pop-valid node s v
+    pub set_valid : (node : ℕ) → Keeping (set_context bodies p node)
+    set_valid node s v = set_keeps p (ValidLines 0) enter_valid pop_valid node s v
 
   -- Prove behind SetContext, up to the check
-  pub ask-valid : (node : ℕ) (e : RExpr) → CleanR e → (s : SolverState) → ValidLines 0 s → ValidLines 1 (ask_goal bodies p node e s)
+  pub ask_valid : (node : ℕ) (e : RExpr) → CleanR e → (s : SolverState) → ValidLines 0 s → ValidLines 1 (ask_goal bodies p node e s)
   unfolding ask_goal ◌⨟◌
-  ask-valid node e h s v = check-valid e h _ (symbols-valid e h _ (push-valid node s v))
+  ask_valid node e h s v = check_valid e h _ (symbols_valid e h _ (push_valid node s v))
 
   -- to its end, without a model and with one
-  pub prove-valid : (node : ℕ) (e : RExpr) → CleanR e → (s : SolverState) → ValidLines 0 s → ValidLines 0 (close_goal bodies (ask_goal bodies p node e s))
-  prove-valid node e h s v = close-valid _ (ask-length p node e s) (ask-valid node e h s v)
+  pub prove_valid : (node : ℕ) (e : RExpr) → CleanR e → (s : SolverState) → ValidLines 0 s → ValidLines 0 (close_goal bodies (ask_goal bodies p node e s))
+  prove_valid node e h s v = close_valid _ (ask_length p node e s) (ask_valid node e h s v)
 
-  pub prove-model-valid : (node : ℕ) (e : RExpr) → CleanR e → (s : SolverState)
+  pub prove_model_valid : (node : ℕ) (e : RExpr) → CleanR e → (s : SolverState)
       → ValidLines 0 s → ValidLines 0 (close_goal bodies (ask_model bodies (ask_goal bodies p node e s)))
   unfolding ask_model told
-  prove-model-valid node e h s v = close-valid _ (ask-length p node e s) (model-valid _ (ask-valid node e h s v))
+  prove_model_valid node e h s v = close_valid _ (ask_length p node e s) (model_valid _ (ask_valid node e h s v))

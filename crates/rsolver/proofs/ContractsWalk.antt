@@ -6,7 +6,7 @@ use mathlib.Core.Bool.{Bool, true, false, or-true}
 use mathlib.Core.List.{List, [], ◌∷◌}
 use Rattle.basics.specs.Text.{Text, same}
 use Rattle.basics.proofs.All.{All}
-use Rattle.basics.proofs.Texts.{same-eq}
+use Rattle.basics.proofs.Texts.{same_eq}
 use Rattle.book.specs.SType.{SType, SBool, SInt, SUserType}
 use Rattle.book.specs.RExpr.{RExpr, RExprs, RPatterns, ROperator, BuiltInOperator, UserDefinedFunction, Boolean, Integer, CustomLiteral, Id, FuncAppl, IfThenElse, LetExpr, QuantifierExpr, []ʳ, ◌∷ʳ◌, []ᵖ, ◌∷ᵖ◌}
 use Rattle.book.specs.Program.{Program}
@@ -15,7 +15,7 @@ use Rattle.rsolver.specs.Step.{Step, skip, ◌⨟◌, for, do_unless, unless}
 use Rattle.rsolver.specs.Methods.{Marker}
 use Rattle.rsolver.specs.SolverState.{same_marker, is_in, with', SolverState, told, marked, named, missed, bodies}
 use Rattle.rsolver.specs.REngine.{with_constants, declare_type, declare_constant, declare_function, declare_literal, assume, declare_new_types, declare_type_of, send_axiom, include_axiom, declare_operator, declare_symbols, declare_all_symbols, declare_pattern_symbols, walk, declare_new_symbols}
-use Rattle.rsolver.proofs.Sets.{marker-eq, in-with, Distinct, distinct-with}
+use Rattle.rsolver.proofs.Sets.{marker_eq, in_with, Distinct, distinct_with}
 
 -- the twostate predicate: s is the old state
 pub record Evolves (s t : SolverState) : Type 0 where
@@ -41,13 +41,13 @@ Growing f = (s : SolverState) → Grows s (f s)
 stays : {s : SolverState} → Grows s s
 stays = record { evolves = record { stack = refl; declarations = λ m h. h; names = λ n h. h }; unrepeated = λ u. u }
 
-skip-g : Growing skip
+skip_g : Growing skip
 unfolding skip
-skip-g s = stays
+skip_g s = stays
 
-then-g : {f g : Step SolverState} → Growing f → Growing g → Growing (f ⨟ g)
+then_g : {f g : Step SolverState} → Growing f → Growing g → Growing (f ⨟ g)
 unfolding ◌⨟◌
-then-g {f} F G s =
+then_g {f} F G s =
     let a = F s in
     let b = G (f s) in
     record {
@@ -60,127 +60,127 @@ then-g {f} F G s =
       unrepeated = λ u. b.unrepeated (a.unrepeated u);
     }
 
-for-g : {A : Type 0} (xs : List A) {body : A → Step SolverState} → ((x : A) → Growing (body x)) → Growing (for xs body)
+for_g : {A : Type 0} (xs : List A) {body : A → Step SolverState} → ((x : A) → Growing (body x)) → Growing (for xs body)
 unfolding for skip ◌⨟◌
-for-g [] h = skip-g
-for-g (x ∷ xs) {body} h = then-g (h x) (for-g xs h)
+for_g [] h = skip_g
+for_g (x ∷ xs) {body} h = then_g (h x) (for_g xs h)
 
-unless-g : (test : SolverState → Bool) {f : Step SolverState} → Growing f → Growing (unless test f)
+unless_g : (test : SolverState → Bool) {f : Step SolverState} → Growing f → Growing (unless test f)
 unfolding unless do_unless
-unless-g test {f} F s = at (test s)
+unless_g test {f} F s = at (test s)
   where
     at : (b : Bool) → Grows s (do_unless b f s)
     at true = stays
     at false = F s
 
-told-g : (c : Command) → Growing (told c)
+told_g : (c : Command) → Growing (told c)
 unfolding told
-told-g c s =
+told_g c s =
     record {
       evolves = record { stack = refl; declarations = λ m h. h; names = λ n h. h };
       unrepeated = λ u. record { here = u.here; copies = u.copies };
     }
 
-missed-g : Growing missed
+missed_g : Growing missed
 unfolding missed
-missed-g s =
+missed_g s =
     record {
       evolves = record { stack = refl; declarations = λ m h. h; names = λ n h. h };
       unrepeated = λ u. record { here = u.here; copies = u.copies };
     }
 
 -- what stood in a set stands in it with one element more
-in-more : {A : Type 0} (eq : A → A → Bool) → ((x y : A) → eq x y ≡ true → x ≡ y) → (y x : A) (xs : List A)
+in_more : {A : Type 0} (eq : A → A → Bool) → ((x y : A) → eq x y ≡ true → x ≡ y) → (y x : A) (xs : List A)
     → is_in eq y xs ≡ true → is_in eq y (with' eq x xs) ≡ true
-in-more eq sound y x xs h = in-with eq sound y x xs ∙ rw h (or-true (eq y x))
+in_more eq sound y x xs h = in_with eq sound y x xs ∙ rw h (or-true (eq y x))
 
-marked-g : (m : Marker) → Growing (marked m)
+marked_g : (m : Marker) → Growing (marked m)
 unfolding marked
-marked-g m s =
+marked_g m s =
     record {
-      evolves = record { stack = refl; declarations = λ n h. in-more same_marker marker-eq n m s.declarations h; names = λ n h. h };
-      unrepeated = λ u. record { here = (distinct-with same_marker m s.declarations u.here.0, u.here.1); copies = u.copies };
+      evolves = record { stack = refl; declarations = λ n h. in_more same_marker marker_eq n m s.declarations h; names = λ n h. h };
+      unrepeated = λ u. record { here = (distinct_with same_marker m s.declarations u.here.0, u.here.1); copies = u.copies };
     }
 
-named-g : (name : Text) → Growing (named name)
+named_g : (name : Text) → Growing (named name)
 unfolding named
-named-g name s =
+named_g name s =
     record {
-      evolves = record { stack = refl; declarations = λ m h. h; names = λ n h. in-more same same-eq n name s.additional_declared_names h };
-      unrepeated = λ u. record { here = (u.here.0, distinct-with same name s.additional_declared_names u.here.1); copies = u.copies };
+      evolves = record { stack = refl; declarations = λ m h. h; names = λ n h. in_more same same_eq n name s.additional_declared_names h };
+      unrepeated = λ u. record { here = (u.here.0, distinct_with same name s.additional_declared_names u.here.1); copies = u.copies };
     }
 
-assume-g : (e : RExpr) → Growing (assume bodies e)
+assume_g : (e : RExpr) → Growing (assume bodies e)
 unfolding assume
-assume-g e s = told-g _ s
+assume_g e s = told_g _ s
 
-types-g : (typ : SType) → Growing (declare_new_types bodies typ)
+types_g : (typ : SType) → Growing (declare_new_types bodies typ)
 unfolding declare_new_types declare_type
-types-g SBool = skip-g
-types-g SInt = skip-g
-types-g (SUserType decl) = unless-g _ (then-g (told-g _) (marked-g _))
+types_g SBool = skip_g
+types_g SInt = skip_g
+types_g (SUserType decl) = unless_g _ (then_g (told_g _) (marked_g _))
 
 module _ (p : Program) where
   module _ (inner : RExpr → List ℕ → Step SolverState) (inner-g : (e : RExpr) (x : List ℕ) → Growing (inner e x)) where
-    axiom-g : (x : List ℕ) (k : ℕ) (explains : List ℕ) (term : Option RExpr) → Growing (send_axiom bodies p inner x k explains term)
+    axiom_g : (x : List ℕ) (k : ℕ) (explains : List ℕ) (term : Option RExpr) → Growing (send_axiom bodies p inner x k explains term)
     unfolding send_axiom
-    axiom-g x k explains none = missed-g
-    axiom-g x k explains (some cond) = unless-g _ (then-g (marked-g _) (then-g (inner-g cond []) (assume-g cond)))
+    axiom_g x k explains none = missed_g
+    axiom_g x k explains (some cond) = unless_g _ (then_g (marked_g _) (then_g (inner-g cond []) (assume_g cond)))
 
-    operator-g : (op : ROperator) (x : List ℕ) → Growing (declare_operator bodies p inner op x)
+    operator_g : (op : ROperator) (x : List ℕ) → Growing (declare_operator bodies p inner op x)
     unfolding declare_operator include_axiom declare_function
-    operator-g (BuiltInOperator name) x = skip-g
-    operator-g (UserDefinedFunction func) x =
-        unless-g _
-        (then-g (for-g func.input_types types-g)
-        (then-g (types-g func.typ) (then-g (then-g (told-g _) (marked-g _)) (for-g func.explained_by (λ k. axiom-g x k _ _)))))
+    operator_g (BuiltInOperator name) x = skip_g
+    operator_g (UserDefinedFunction func) x =
+        unless_g _
+        (then_g (for_g func.input_types types_g)
+        (then_g (types_g func.typ) (then_g (then_g (told_g _) (marked_g _)) (for_g func.explained_by (λ k. axiom_g x k _ _)))))
 
     mutual
       unfolding declare_symbols declare_type_of declare_literal declare_constant
 
-      symbols-in-g : (e : RExpr) (x : List ℕ) → Growing (declare_symbols bodies p inner e x)
-      symbols-in-g (Boolean b) x = skip-g
-      symbols-in-g (Integer n) x = skip-g
-      symbols-in-g (CustomLiteral k l) x = unless-g _ (then-g (types-g l.typ) (then-g (told-g _) (named-g _)))
-      symbols-in-g (Id v) x = unless-g _ (then-g (types-g v.typ) (then-g (told-g _) (marked-g _)))
-      symbols-in-g (FuncAppl op args) x = then-g (operator-g op x) (all-symbols-g args x)
-      symbols-in-g (IfThenElse guard thn els) x = then-g (symbols-in-g guard x) (then-g (symbols-in-g thn x) (symbols-in-g els x))
-      symbols-in-g (LetExpr v rhs body) x = then-g (types-g v.typ) (then-g (symbols-in-g rhs x) (symbols-in-g body (v.number ∷ x)))
-      symbols-in-g (QuantifierExpr univ vv patterns body) x =
-          then-g (for-g vv (λ v. types-g v.typ)) (then-g (pattern-symbols-g patterns (with_constants vv x)) (symbols-in-g body (with_constants vv x)))
+      symbols_in_g : (e : RExpr) (x : List ℕ) → Growing (declare_symbols bodies p inner e x)
+      symbols_in_g (Boolean b) x = skip_g
+      symbols_in_g (Integer n) x = skip_g
+      symbols_in_g (CustomLiteral k l) x = unless_g _ (then_g (types_g l.typ) (then_g (told_g _) (named_g _)))
+      symbols_in_g (Id v) x = unless_g _ (then_g (types_g v.typ) (then_g (told_g _) (marked_g _)))
+      symbols_in_g (FuncAppl op args) x = then_g (operator_g op x) (all_symbols_g args x)
+      symbols_in_g (IfThenElse guard thn els) x = then_g (symbols_in_g guard x) (then_g (symbols_in_g thn x) (symbols_in_g els x))
+      symbols_in_g (LetExpr v rhs body) x = then_g (types_g v.typ) (then_g (symbols_in_g rhs x) (symbols_in_g body (v.number ∷ x)))
+      symbols_in_g (QuantifierExpr univ vv patterns body) x =
+          then_g (for_g vv (λ v. types_g v.typ)) (then_g (pattern_symbols_g patterns (with_constants vv x)) (symbols_in_g body (with_constants vv x)))
 
-      all-symbols-g : (es : RExprs) (x : List ℕ) → Growing (declare_all_symbols bodies p inner es x)
-      all-symbols-g []ʳ x = skip-g
-      all-symbols-g (e ∷ʳ es) x = then-g (symbols-in-g e x) (all-symbols-g es x)
+      all_symbols_g : (es : RExprs) (x : List ℕ) → Growing (declare_all_symbols bodies p inner es x)
+      all_symbols_g []ʳ x = skip_g
+      all_symbols_g (e ∷ʳ es) x = then_g (symbols_in_g e x) (all_symbols_g es x)
 
-      pattern-symbols-g : (ps : RPatterns) (x : List ℕ) → Growing (declare_pattern_symbols bodies p inner ps x)
-      pattern-symbols-g []ᵖ x = skip-g
-      pattern-symbols-g (q ∷ᵖ ps) x = then-g (all-symbols-g q x) (pattern-symbols-g ps x)
+      pattern_symbols_g : (ps : RPatterns) (x : List ℕ) → Growing (declare_pattern_symbols bodies p inner ps x)
+      pattern_symbols_g []ᵖ x = skip_g
+      pattern_symbols_g (q ∷ᵖ ps) x = then_g (all_symbols_g q x) (pattern_symbols_g ps x)
 
-  walk-g : (fuel : ℕ) (e : RExpr) (x : List ℕ) → Growing (walk bodies p fuel e x)
+  walk_g : (fuel : ℕ) (e : RExpr) (x : List ℕ) → Growing (walk bodies p fuel e x)
   unfolding walk
-  walk-g zero e x = skip-g
-  walk-g (suc fuel) e x = symbols-in-g _ (λ cond y. walk-g fuel cond y) e x
+  walk_g zero e x = skip_g
+  walk_g (suc fuel) e x = symbols_in_g _ (λ cond y. walk_g fuel cond y) e x
 
   -- DeclareNewSymbols, with every `exclude` and every fuel: ensures state.Evolves()
-  pub walk-evolves : (fuel : ℕ) (e : RExpr) (exclude : List ℕ) (s : SolverState) → Evolves s (walk bodies p fuel e exclude s)
-  walk-evolves fuel e exclude s = (walk-g fuel e exclude s).evolves
+  pub walk_evolves : (fuel : ℕ) (e : RExpr) (exclude : List ℕ) (s : SolverState) → Evolves s (walk bodies p fuel e exclude s)
+  walk_evolves fuel e exclude s = (walk_g fuel e exclude s).evolves
 
-  pub walk-unrepeated : (fuel : ℕ) (e : RExpr) (exclude : List ℕ) (s : SolverState) → Unrepeated s → Unrepeated (walk bodies p fuel e exclude s)
-  walk-unrepeated fuel e exclude s u = (walk-g fuel e exclude s).unrepeated u
+  pub walk_unrepeated : (fuel : ℕ) (e : RExpr) (exclude : List ℕ) (s : SolverState) → Unrepeated s → Unrepeated (walk bodies p fuel e exclude s)
+  walk_unrepeated fuel e exclude s u = (walk_g fuel e exclude s).unrepeated u
 
   -- with nothing excluded, as AdjustContext and Prove call it
-  pub symbols-evolve : (e : RExpr) (s : SolverState) → Evolves s (declare_new_symbols bodies p e s)
+  pub symbols_evolve : (e : RExpr) (s : SolverState) → Evolves s (declare_new_symbols bodies p e s)
   unfolding declare_new_symbols
-  symbols-evolve e s = walk-evolves _ e [] s
+  symbols_evolve e s = walk_evolves _ e [] s
 
-  pub symbols-unrepeated : (e : RExpr) (s : SolverState) → Unrepeated s → Unrepeated (declare_new_symbols bodies p e s)
+  pub symbols_unrepeated : (e : RExpr) (s : SolverState) → Unrepeated s → Unrepeated (declare_new_symbols bodies p e s)
   unfolding declare_new_symbols
-  symbols-unrepeated e s u = walk-unrepeated _ e [] s u
+  symbols_unrepeated e s u = walk_unrepeated _ e [] s u
 
 -- DeclareNewTypes: ensures state.Evolves()
-pub types-evolve : (typ : SType) (s : SolverState) → Evolves s (declare_new_types bodies typ s)
-types-evolve typ s = (types-g typ s).evolves
+pub types_evolve : (typ : SType) (s : SolverState) → Evolves s (declare_new_types bodies typ s)
+types_evolve typ s = (types_g typ s).evolves
 
-pub types-unrepeated : (typ : SType) (s : SolverState) → Unrepeated s → Unrepeated (declare_new_types bodies typ s)
-types-unrepeated typ s u = (types-g typ s).unrepeated u
+pub types_unrepeated : (typ : SType) (s : SolverState) → Unrepeated s → Unrepeated (declare_new_types bodies typ s)
+types_unrepeated typ s u = (types_g typ s).unrepeated u

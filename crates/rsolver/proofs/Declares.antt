@@ -15,11 +15,11 @@ use Rattle.book.specs.Program.{Program, axiom_at}
 use Rattle.book.proofs.Every.{EveryRs, EveryPs, EveryTerm}
 use Rattle.solver_expr.proofs.Clean.{CleanType, CleanConstant, CleanFunction, CleanLiteral, CleanOperator, cleanly, CleanR}
 use Rattle.smt_engines.specs.Command.{Command}
-use Rattle.smt_engines.proofs.Commands.{Plain, plain-assume, plain-assume-not, plain-sort, plain-constant, plain-function, plain-literal}
+use Rattle.smt_engines.proofs.Commands.{Plain, plain_assume, plain_assume_not, plain_sort, plain_constant, plain_function, plain_literal}
 use Rattle.rsolver.specs.Step.{Step, skip, ◌⨟◌, for, do_unless, unless}
 use Rattle.rsolver.specs.LevelState.{LevelState, level_state, is_declared_at, send, declare_at, miss, sent_by, levelled}
 use Rattle.rsolver.specs.REngine.{with_constants, declare_type, declare_constant, declare_function, declare_literal, assume, assume_not, declare_new_types, declare_type_of, send_axiom, include_axiom, declare_operator, declare_symbols, declare_all_symbols, declare_pattern_symbols, walk, declare_new_symbols}
-use Rattle.rsolver.proofs.Levels.{Grown, grown-refl, grown-trans, grown-join}
+use Rattle.rsolver.proofs.Levels.{Grown, grown_refl, grown_trans, grown_join}
 
 -- the state, with other commands sent and another mark of what is missing
 abbrev pub put : List Command → Bool → LevelState → LevelState
@@ -50,28 +50,28 @@ pub sent-by : {f : Step LevelState} (F : Declares f) (s : LevelState) → sent_b
 unfolding sent_by
 sent-by F s = ap (λ (x : LevelState). x.sent) (F.blind s [] s.missing)
 
-pub missing-is : {f : Step LevelState} (F : Declares f) (s : LevelState) → (f s).missing ≡ (s.missing || F.missed s)
-missing-is F s = ap (λ (x : LevelState). x.missing) (F.blind s s.sent s.missing)
+pub missing_is : {f : Step LevelState} (F : Declares f) (s : LevelState) → (f s).missing ≡ (s.missing || F.missed s)
+missing_is F s = ap (λ (x : LevelState). x.missing) (F.blind s s.sent s.missing)
 
 -- what was missing stays so
-pub missing-down : {f : Step LevelState} (F : Declares f) (s : LevelState) → (f s).missing ≡ false → s.missing ≡ false
-missing-down F s e = or_left s.missing _ (sym (missing-is F s) ∙ e)
+pub missing_down : {f : Step LevelState} (F : Declares f) (s : LevelState) → (f s).missing ≡ false → s.missing ≡ false
+missing_down F s e = or_left s.missing _ (sym (missing_is F s) ∙ e)
 
-skip-d : Declares skip
+skip_d : Declares skip
 unfolding skip
-skip-d =
+skip_d =
     record {
       more = λ s. [];
       missed = λ s. false;
       plains = λ s. end;
       blind = λ s l m i. put (sym (append-nil l) i) (or-false m i) s;
       stack = λ s. refl;
-      grows = λ s. grown-refl _ _;
+      grows = λ s. grown_refl _ _;
     }
 
-pub then-d : {f g : Step LevelState} → Declares f → Declares g → Declares (f ⨟ g)
+pub then_d : {f g : Step LevelState} → Declares f → Declares g → Declares (f ⨟ g)
 unfolding ◌⨟◌
-then-d {f} {g} F G =
+then_d {f} {g} F G =
     record {
       more = λ s. F.more s ++ G.more (f s);
       missed = λ s. F.missed s || G.missed (f s);
@@ -81,23 +81,23 @@ then-d {f} {g} F G =
           ∙ (λ i. put (append_assoc l (F.more s) (G.more (f s)) i) (or_assoc m (F.missed s) (G.missed (f s)) i) (g (f s)));
       stack = λ s. G.stack (f s) ∙ F.stack s;
       grows = λ s.
-          grown-trans (F.grows s) (subst (λ (st : List ℕ). Grown (length st) (f s).levels (g (f s)).levels) (F.stack s) (G.grows (f s)));
+          grown_trans (F.grows s) (subst (λ (st : List ℕ). Grown (length st) (f s).levels (g (f s)).levels) (F.stack s) (G.grows (f s)));
     }
 
-for-d : {A : Type 0} {P : A → Type 0} {xs : List A} {body : A → Step LevelState} → All P xs → ((x : A) → P x → Declares (body x)) → Declares (for xs body)
+for_d : {A : Type 0} {P : A → Type 0} {xs : List A} {body : A → Step LevelState} → All P xs → ((x : A) → P x → Declares (body x)) → Declares (for xs body)
 unfolding for skip ◌⨟◌
-for-d end h = skip-d
-for-d (more {a = x} k ks) h = then-d (h x k) (for-d ks h)
+for_d end h = skip_d
+for_d (more {a = x} k ks) h = then_d (h x k) (for_d ks h)
 
 -- for a body that is fine whatever it is given
-any-d : {A : Type 0} (xs : List A) {body : A → Step LevelState} → ((x : A) → Declares (body x)) → Declares (for xs body)
+any_d : {A : Type 0} (xs : List A) {body : A → Step LevelState} → ((x : A) → Declares (body x)) → Declares (for xs body)
 unfolding for skip ◌⨟◌
-any-d [] h = skip-d
-any-d (x ∷ xs) h = then-d (h x) (any-d xs h)
+any_d [] h = skip_d
+any_d (x ∷ xs) h = then_d (h x) (any_d xs h)
 
-unless-d : (test : LevelState → Bool) → ((s : LevelState) (l : List Command) (m : Bool) → test (put l m s) ≡ test s) → {f : Step LevelState} → Declares f → Declares (unless test f)
+unless_d : (test : LevelState → Bool) → ((s : LevelState) (l : List Command) (m : Bool) → test (put l m s) ≡ test s) → {f : Step LevelState} → Declares f → Declares (unless test f)
 unfolding do_unless unless skip
-unless-d test same {f} F =
+unless_d test same {f} F =
     record {
       more = λ s. (at (test s)).more s;
       missed = λ s. (at (test s)).missed s;
@@ -108,121 +108,121 @@ unless-d test same {f} F =
     }
   where
     at : (b : Bool) → Declares (do_unless b f)
-    at true = skip-d
+    at true = skip_d
     at false = F
 
-send-d : (c : Command) → Plain c → Declares (send c)
+send_d : (c : Command) → Plain c → Declares (send c)
 unfolding send
-send-d c h =
+send_d c h =
     record {
       more = λ s. c ∷ [];
       missed = λ s. false;
       plains = λ s. more h end;
       blind = λ s l m i. put (l ++ (c ∷ [])) (or-false m i) s;
       stack = λ s. refl;
-      grows = λ s. grown-refl _ _;
+      grows = λ s. grown_refl _ _;
     }
 
-miss-d : Declares miss
+miss_d : Declares miss
 unfolding miss
-miss-d =
+miss_d =
     record {
       more = λ s. [];
       missed = λ s. true;
       plains = λ s. end;
       blind = λ s l m i. put (sym (append-nil l) i) (or-true m i) s;
       stack = λ s. refl;
-      grows = λ s. grown-refl _ _;
+      grows = λ s. grown_refl _ _;
     }
 
-mark-d : (k : ℕ) → Declares (declare_at k)
+mark_d : (k : ℕ) → Declares (declare_at k)
 unfolding declare_at
-mark-d k =
+mark_d k =
     record {
       more = λ s. [];
       missed = λ s. false;
       plains = λ s. end;
       blind = λ s l b i. put (sym (append-nil l) i) (or-false b i) (declare_at k s);
       stack = λ s. refl;
-      grows = λ s. grown-join (length s.stack) s.levels k;
+      grows = λ s. grown_join (length s.stack) s.levels k;
     }
 
 -- an assertion, whose %tag number is what is declared when it is sent
-assert-d : (c : LevelState → Command) → ((s : LevelState) → Plain (c s)) → ((s : LevelState) (l : List Command) (m : Bool) → c (put l m s) ≡ c s) → Declares (λ s. send (c s) s)
+assert_d : (c : LevelState → Command) → ((s : LevelState) → Plain (c s)) → ((s : LevelState) (l : List Command) (m : Bool) → c (put l m s) ≡ c s) → Declares (λ s. send (c s) s)
 unfolding send
-assert-d c h same =
+assert_d c h same =
     record {
       more = λ s. c s ∷ [];
       missed = λ s. false;
       plains = λ s. more (h s) end;
       blind = λ s l m i. put (l ++ (same s l m i ∷ [])) (or-false m i) s;
       stack = λ s. refl;
-      grows = λ s. grown-refl _ _;
+      grows = λ s. grown_refl _ _;
     }
 
 module _ (p : Program) where
-  pub assume-d : (e : RExpr) → CleanR e → Declares (assume (levelled p) e)
+  pub assume_d : (e : RExpr) → CleanR e → Declares (assume (levelled p) e)
   unfolding assume
-  assume-d e h = assert-d _ (λ s. plain-assume e _ h) (λ s l m. refl)
+  assume_d e h = assert_d _ (λ s. plain_assume e _ h) (λ s l m. refl)
 
-  pub assume-not-d : (e : RExpr) → CleanR e → Declares (assume_not (levelled p) e)
+  pub assume_not_d : (e : RExpr) → CleanR e → Declares (assume_not (levelled p) e)
   unfolding assume_not
-  assume-not-d e h = assert-d _ (λ s. plain-assume-not e _ h) (λ s l m. refl)
+  assume_not_d e h = assert_d _ (λ s. plain_assume_not e _ h) (λ s l m. refl)
 
-  types-d : (t : SType) → CleanType t → Declares (declare_new_types (levelled p) t)
+  types_d : (t : SType) → CleanType t → Declares (declare_new_types (levelled p) t)
   unfolding declare_new_types declare_type is_declared_at
-  types-d SBool h = skip-d
-  types-d SInt h = skip-d
-  types-d (SUserType d) h = unless-d _ (λ s l m. refl) (then-d (send-d _ (plain-sort d h)) (mark-d _))
+  types_d SBool h = skip_d
+  types_d SInt h = skip_d
+  types_d (SUserType d) h = unless_d _ (λ s l m. refl) (then_d (send_d _ (plain_sort d h)) (mark_d _))
 
   -- ---- the walk, where every axiom's term has clean names
   module _ (clean-axioms : (k : ℕ) → EveryTerm cleanly (axiom_at p k).term) where
     module _ (inner : RExpr → List ℕ → Step LevelState) (inner-d : (e : RExpr) (x : List ℕ) → CleanR e → Declares (inner e x)) where
-      send-axiom-d : (x : List ℕ) (k : ℕ) (fs : List ℕ) (t : Option RExpr) → EveryTerm cleanly t → Declares (send_axiom (levelled p) p inner x k fs t)
+      send_axiom_d : (x : List ℕ) (k : ℕ) (fs : List ℕ) (t : Option RExpr) → EveryTerm cleanly t → Declares (send_axiom (levelled p) p inner x k fs t)
       unfolding send_axiom is_declared_at
-      send-axiom-d x k fs none h = miss-d
-      send-axiom-d x k fs (some e) h = unless-d _ (λ s l m. refl) (then-d (mark-d _) (then-d (inner-d e [] h) (assume-d e h)))
+      send_axiom_d x k fs none h = miss_d
+      send_axiom_d x k fs (some e) h = unless_d _ (λ s l m. refl) (then_d (mark_d _) (then_d (inner-d e [] h) (assume_d e h)))
 
-      operator-d : (op : ROperator) (x : List ℕ) → CleanOperator op → Declares (declare_operator (levelled p) p inner op x)
+      operator_d : (op : ROperator) (x : List ℕ) → CleanOperator op → Declares (declare_operator (levelled p) p inner op x)
       unfolding declare_operator declare_function include_axiom is_declared_at
-      operator-d (BuiltInOperator n) x h = skip-d
-      operator-d (UserDefinedFunction f) x h =
-          unless-d _ (λ s l m. refl)
-          (then-d (for-d h.input_types types-d)
-          (then-d (types-d f.typ h.typ)
-          (then-d (then-d (send-d _ (plain-function f h)) (mark-d _)) (any-d f.explained_by (λ k. send-axiom-d x k _ _ (clean-axioms k))))))
+      operator_d (BuiltInOperator n) x h = skip_d
+      operator_d (UserDefinedFunction f) x h =
+          unless_d _ (λ s l m. refl)
+          (then_d (for_d h.input_types types_d)
+          (then_d (types_d f.typ h.typ)
+          (then_d (then_d (send_d _ (plain_function f h)) (mark_d _)) (any_d f.explained_by (λ k. send_axiom_d x k _ _ (clean-axioms k))))))
 
       mutual
         unfolding declare_symbols is_declared_at declare_constant declare_literal declare_type_of
 
-        declare-d : (e : RExpr) (x : List ℕ) → CleanR e → Declares (declare_symbols (levelled p) p inner e x)
-        declare-d (Boolean b) x h = skip-d
-        declare-d (Integer n) x h = skip-d
-        declare-d (CustomLiteral t l) x h =
-            unless-d _ (λ s c m. refl) (then-d (types-d l.typ h.typ) (then-d (send-d _ (plain-literal l h)) (mark-d _)))
-        declare-d (Id v) x h = unless-d _ (λ s l m. refl) (then-d (types-d v.typ h.typ) (then-d (send-d _ (plain-constant v h)) (mark-d _)))
-        declare-d (FuncAppl op args) x h = then-d (operator-d op x h.0) (declares-d args x h.1)
-        declare-d (IfThenElse g t e) x h = then-d (declare-d g x h.0) (then-d (declare-d t x h.1) (declare-d e x h.2))
-        declare-d (LetExpr v r b) x h =
-            then-d (types-d v.typ h.0.typ) (then-d (declare-d r x h.1) (declare-d b (v.number ∷ x) h.2))
-        declare-d (QuantifierExpr u vv ps b) x h =
-            then-d (for-d h.0 (λ v k. types-d v.typ k.typ))
-            (then-d (patterns-d ps (with_constants vv x) h.1) (declare-d b (with_constants vv x) h.2))
+        declare_d : (e : RExpr) (x : List ℕ) → CleanR e → Declares (declare_symbols (levelled p) p inner e x)
+        declare_d (Boolean b) x h = skip_d
+        declare_d (Integer n) x h = skip_d
+        declare_d (CustomLiteral t l) x h =
+            unless_d _ (λ s c m. refl) (then_d (types_d l.typ h.typ) (then_d (send_d _ (plain_literal l h)) (mark_d _)))
+        declare_d (Id v) x h = unless_d _ (λ s l m. refl) (then_d (types_d v.typ h.typ) (then_d (send_d _ (plain_constant v h)) (mark_d _)))
+        declare_d (FuncAppl op args) x h = then_d (operator_d op x h.0) (declares_d args x h.1)
+        declare_d (IfThenElse g t e) x h = then_d (declare_d g x h.0) (then_d (declare_d t x h.1) (declare_d e x h.2))
+        declare_d (LetExpr v r b) x h =
+            then_d (types_d v.typ h.0.typ) (then_d (declare_d r x h.1) (declare_d b (v.number ∷ x) h.2))
+        declare_d (QuantifierExpr u vv ps b) x h =
+            then_d (for_d h.0 (λ v k. types_d v.typ k.typ))
+            (then_d (patterns_d ps (with_constants vv x) h.1) (declare_d b (with_constants vv x) h.2))
 
-        declares-d : (es : RExprs) (x : List ℕ) → EveryRs cleanly es → Declares (declare_all_symbols (levelled p) p inner es x)
-        declares-d []ʳ x h = skip-d
-        declares-d (e ∷ʳ es) x h = then-d (declare-d e x h.0) (declares-d es x h.1)
+        declares_d : (es : RExprs) (x : List ℕ) → EveryRs cleanly es → Declares (declare_all_symbols (levelled p) p inner es x)
+        declares_d []ʳ x h = skip_d
+        declares_d (e ∷ʳ es) x h = then_d (declare_d e x h.0) (declares_d es x h.1)
 
-        patterns-d : (ps : RPatterns) (x : List ℕ) → EveryPs cleanly ps → Declares (declare_pattern_symbols (levelled p) p inner ps x)
-        patterns-d []ᵖ x h = skip-d
-        patterns-d (q ∷ᵖ ps) x h = then-d (declares-d q x h.0) (patterns-d ps x h.1)
+        patterns_d : (ps : RPatterns) (x : List ℕ) → EveryPs cleanly ps → Declares (declare_pattern_symbols (levelled p) p inner ps x)
+        patterns_d []ᵖ x h = skip_d
+        patterns_d (q ∷ᵖ ps) x h = then_d (declares_d q x h.0) (patterns_d ps x h.1)
 
-    walk-d : (fuel : ℕ) (e : RExpr) (x : List ℕ) → CleanR e → Declares (walk (levelled p) p fuel e x)
+    walk_d : (fuel : ℕ) (e : RExpr) (x : List ℕ) → CleanR e → Declares (walk (levelled p) p fuel e x)
     unfolding walk
-    walk-d zero e x h = skip-d
-    walk-d (suc fuel) e x h = declare-d _ (λ c y k. walk-d fuel c y k) e x h
+    walk_d zero e x h = skip_d
+    walk_d (suc fuel) e x h = declare_d _ (λ c y k. walk_d fuel c y k) e x h
 
     -- DeclareNewSymbols
-    pub symbols-d : (e : RExpr) → CleanR e → Declares (declare_new_symbols (levelled p) p e)
+    pub symbols_d : (e : RExpr) → CleanR e → Declares (declare_new_symbols (levelled p) p e)
     unfolding declare_new_symbols
-    symbols-d e h = walk-d _ e [] h
+    symbols_d e h = walk_d _ e [] h

@@ -17,45 +17,45 @@ pub data Grown (k : ℕ) : List ℕ → List ℕ → Type 0 where
   kept : {a : ℕ} {l m : List ℕ} → Grown k l m → Grown k (a ∷ l) (a ∷ m)
   new : {l m : List ℕ} → Grown k l m → Grown k (zero ∷ l) (k ∷ m)
 
-pub grown-refl : (k : ℕ) (l : List ℕ) → Grown k l l
-grown-refl k [] = done
-grown-refl k (a ∷ l) = kept (grown-refl k l)
+pub grown_refl : (k : ℕ) (l : List ℕ) → Grown k l l
+grown_refl k [] = done
+grown_refl k (a ∷ l) = kept (grown_refl k l)
 
-pub grown-trans : {k : ℕ} {l m n : List ℕ} → Grown k l m → Grown k m n → Grown k l n
-grown-trans done h = h
-grown-trans (kept g) (kept h) = kept (grown-trans g h)
-grown-trans (kept g) (new h) = new (grown-trans g h)
-grown-trans (new g) (kept h) = new (grown-trans g h)
-grown-trans (new g) (new h) = new (grown-trans g h)
+pub grown_trans : {k : ℕ} {l m n : List ℕ} → Grown k l m → Grown k m n → Grown k l n
+grown_trans done h = h
+grown_trans (kept g) (kept h) = kept (grown_trans g h)
+grown_trans (kept g) (new h) = new (grown_trans g h)
+grown_trans (new g) (kept h) = new (grown_trans g h)
+grown_trans (new g) (new h) = new (grown_trans g h)
 
-pub grown-join : (k : ℕ) (l : List ℕ) (i : ℕ) → Grown k l (join_at l i k)
+pub grown_join : (k : ℕ) (l : List ℕ) (i : ℕ) → Grown k l (join_at l i k)
 unfolding join_at
-grown-join k [] i = done
-grown-join k (zero ∷ l) zero = new (grown-refl k l)
-grown-join k (suc a ∷ l) zero = kept (grown-refl k l)
-grown-join k (zero ∷ l) (suc i) = kept (grown-join k l i)
-grown-join k (suc a ∷ l) (suc i) = kept (grown-join k l i)
+grown_join k [] i = done
+grown_join k (zero ∷ l) zero = new (grown_refl k l)
+grown_join k (suc a ∷ l) zero = kept (grown_refl k l)
+grown_join k (zero ∷ l) (suc i) = kept (grown_join k l i)
+grown_join k (suc a ∷ l) (suc i) = kept (grown_join k l i)
 
-pub grown-length : {k : ℕ} {l m : List ℕ} → Grown k l m → length m ≡ length l
-grown-length done = refl
-grown-length (kept g) = ap suc (grown-length g)
-grown-length (new g) = ap suc (grown-length g)
+pub grown_length : {k : ℕ} {l m : List ℕ} → Grown k l m → length m ≡ length l
+grown_length done = refl
+grown_length (kept g) = ap suc (grown_length g)
+grown_length (new g) = ap suc (grown_length g)
 
 abbrev pub Within : ℕ → List ℕ → Type 0
 Within k l = All (λ a. a ≤ k) l
 
-pub within-zeros : (n k : ℕ) → Within k (replicate n 0)
-within-zeros zero k = end
-within-zeros (suc n) k = more {a = 0} (omega arith) (within-zeros n k)
+pub within_zeros : (n k : ℕ) → Within k (replicate n 0)
+within_zeros zero k = end
+within_zeros (suc n) k = more {a = 0} (omega arith) (within_zeros n k)
 
-pub grown-within : {k : ℕ} {l m : List ℕ} → Grown (suc k) l m → Within k l → Within (suc k) m
-grown-within done end = end
-grown-within (kept {a = a} g) (more h w) = more {a = a} (omega arith) (grown-within g w)
-grown-within {k} (new g) (more h w) = more {a = suc k} (omega arith) (grown-within g w)
+pub grown_within : {k : ℕ} {l m : List ℕ} → Grown (suc k) l m → Within k l → Within (suc k) m
+grown_within done end = end
+grown_within (kept {a = a} g) (more h w) = more {a = a} (omega arith) (grown_within g w)
+grown_within {k} (new g) (more h w) = more {a = suc k} (omega arith) (grown_within g w)
 
 -- leaving a level gives back what there was below it
-pub forget-grown : {k : ℕ} {l m : List ℕ} → Grown (suc k) l m → Within k l → forget (suc k) m ≡ l
+pub forget_grown : {k : ℕ} {l m : List ℕ} → Grown (suc k) l m → Within k l → forget (suc k) m ≡ l
 unfolding forget
-forget-grown done end = refl
-forget-grown {k} (kept {a = a} g) (more h w) = rw (lt-leb (suc k) a (omega arith), forget-grown g w)
-forget-grown {k} (new g) (more h w) = rw (le-leb (suc k) (suc k) (omega arith), forget-grown g w)
+forget_grown done end = refl
+forget_grown {k} (kept {a = a} g) (more h w) = rw (lt-leb (suc k) a (omega arith), forget_grown g w)
+forget_grown {k} (new g) (more h w) = rw (le-leb (suc k) (suc k) (omega arith), forget_grown g w)

@@ -65,9 +65,9 @@ abbrev pub PlacedProgram : Program → Type 0
 PlacedProgram p = ProgramHas MarkerPlaced p
 
 -- a placed marker's place is below the literals'
-pub place-below : (m : Marker) → MarkerPlaced m → place m < literal_places
+pub place_below : (m : Marker) → MarkerPlaced m → place m < literal_places
 unfolding place
-place-below (type k) h = omega arith
-place-below (constant k) h = omega arith
-place-below (function k) h = omega arith
-place-below (axiom' k) h = omega arith
+place_below (type k) h = omega arith
+place_below (constant k) h = omega arith
+place_below (function k) h = omega arith
+place_below (axiom' k) h = omega arith

@@ -20,7 +20,7 @@ use Rattle.rsolver.specs.Step.{Step, skip, ◌⨟◌, for, do_unless, unless, do
 use Rattle.rsolver.specs.Methods.{constant, function, axiom', Methods, with_pop}
 use Rattle.rsolver.specs.SolverState.{StackItem, SolverState, is_top, pop_to, popped, pop_to_or, popped_or, told, bodies, bodies_or}
 use Rattle.rsolver.specs.REngine.{with_constants, declare_type, declare_constant, declare_function, declare_literal, assume, assume_not, check, ask_model, end_check, declare_new_types, declare_type_of, send_axiom, include_axiom, declare_operator, declare_symbols, declare_all_symbols, declare_pattern_symbols, walk, declare_new_symbols, enter, adjust_context, pop_times, set_context, ask_goal, close_goal}
-use Rattle.rsolver.proofs.ContractsContext.{pop-length, ask-length}
+use Rattle.rsolver.proofs.ContractsContext.{pop_length, ask_length}
 
 -- ---- the walk never pops: methods that differ in Pop alone take the same steps
 module _ {S : Type 0} (M : Methods S) (pop : Step S) where
@@ -32,98 +32,98 @@ module _ {S : Type 0} (M : Methods S) (pop : Step S) where
 
   module _ (p : Program) where
     module _ (inner' inner : RExpr → List ℕ → Step S) (inner-same : (e : RExpr) (x : List ℕ) → inner' e x ≡ inner e x) where
-      axiom-same : (x : List ℕ) (k : ℕ) (explains : List ℕ) (term : Option RExpr)
+      axiom_same : (x : List ℕ) (k : ℕ) (explains : List ℕ) (term : Option RExpr)
           → send_axiom (with_pop pop M) p inner' x k explains term ≡ send_axiom M p inner x k explains term
       unfolding send_axiom assume
-      axiom-same x k explains none = refl
-      axiom-same x k explains (some cond) = λ i.
+      axiom_same x k explains none = refl
+      axiom_same x k explains (some cond) = λ i.
           unless (λ s. M.is_declared (axiom' k) s || not (all explains (λ f. M.is_declared (function f) s)))
           (M.add_declaration_marker (axiom' k) ⨟ inner-same cond [] i ⨟ assume M cond)
 
-      operator-same : (op : ROperator) (x : List ℕ) → declare_operator (with_pop pop M) p inner' op x ≡ declare_operator M p inner op x
+      operator_same : (op : ROperator) (x : List ℕ) → declare_operator (with_pop pop M) p inner' op x ≡ declare_operator M p inner op x
       unfolding declare_operator include_axiom declare_function
-      operator-same (BuiltInOperator name) x = refl
-      operator-same (UserDefinedFunction func) x = λ i.
+      operator_same (BuiltInOperator name) x = refl
+      operator_same (UserDefinedFunction func) x = λ i.
           unless (M.is_declared (function func.number))
           (for func.input_types (λ typ. types_same typ i)
           ⨟ types_same func.typ i
           ⨟ declare_function M func
-          ⨟ for func.explained_by (λ k. axiom-same x k (axiom_at p k).explains (axiom_at p k).term i))
+          ⨟ for func.explained_by (λ k. axiom_same x k (axiom_at p k).explains (axiom_at p k).term i))
 
       mutual
         unfolding declare_symbols declare_type_of declare_literal declare_constant
 
-        symbols-in-same : (e : RExpr) (x : List ℕ) → declare_symbols (with_pop pop M) p inner' e x ≡ declare_symbols M p inner e x
-        symbols-in-same (Boolean b) x = refl
-        symbols-in-same (Integer n) x = refl
-        symbols-in-same (CustomLiteral k l) x = λ i.
+        symbols_in_same : (e : RExpr) (x : List ℕ) → declare_symbols (with_pop pop M) p inner' e x ≡ declare_symbols M p inner e x
+        symbols_in_same (Boolean b) x = refl
+        symbols_in_same (Integer n) x = refl
+        symbols_in_same (CustomLiteral k l) x = λ i.
             unless (λ s. is_tag l || M.is_named (literal_name l) s) (types_same l.typ i ⨟ declare_literal M k l)
-        symbols-in-same (Id v) x = λ i.
+        symbols_in_same (Id v) x = λ i.
             unless (λ s. member v.number x || M.is_declared (constant v.number) s) (types_same v.typ i ⨟ declare_constant M v)
-        symbols-in-same (FuncAppl op args) x = λ i. operator-same op x i ⨟ all-symbols-same args x i
-        symbols-in-same (IfThenElse guard thn els) x = λ i. symbols-in-same guard x i ⨟ symbols-in-same thn x i ⨟ symbols-in-same els x i
-        symbols-in-same (LetExpr v rhs body) x = λ i.
-            types_same v.typ i ⨟ symbols-in-same rhs x i ⨟ symbols-in-same body (v.number ∷ x) i
-        symbols-in-same (QuantifierExpr univ vv patterns body) x = λ i.
+        symbols_in_same (FuncAppl op args) x = λ i. operator_same op x i ⨟ all_symbols_same args x i
+        symbols_in_same (IfThenElse guard thn els) x = λ i. symbols_in_same guard x i ⨟ symbols_in_same thn x i ⨟ symbols_in_same els x i
+        symbols_in_same (LetExpr v rhs body) x = λ i.
+            types_same v.typ i ⨟ symbols_in_same rhs x i ⨟ symbols_in_same body (v.number ∷ x) i
+        symbols_in_same (QuantifierExpr univ vv patterns body) x = λ i.
             for vv (λ v. types_same v.typ i)
-            ⨟ pattern-symbols-same patterns (with_constants vv x) i
-            ⨟ symbols-in-same body (with_constants vv x) i
+            ⨟ pattern_symbols_same patterns (with_constants vv x) i
+            ⨟ symbols_in_same body (with_constants vv x) i
 
-        all-symbols-same : (es : RExprs) (x : List ℕ) → declare_all_symbols (with_pop pop M) p inner' es x ≡ declare_all_symbols M p inner es x
-        all-symbols-same []ʳ x = refl
-        all-symbols-same (e ∷ʳ es) x = λ i. symbols-in-same e x i ⨟ all-symbols-same es x i
+        all_symbols_same : (es : RExprs) (x : List ℕ) → declare_all_symbols (with_pop pop M) p inner' es x ≡ declare_all_symbols M p inner es x
+        all_symbols_same []ʳ x = refl
+        all_symbols_same (e ∷ʳ es) x = λ i. symbols_in_same e x i ⨟ all_symbols_same es x i
 
-        pattern-symbols-same : (ps : RPatterns) (x : List ℕ)
+        pattern_symbols_same : (ps : RPatterns) (x : List ℕ)
             → declare_pattern_symbols (with_pop pop M) p inner' ps x ≡ declare_pattern_symbols M p inner ps x
-        pattern-symbols-same []ᵖ x = refl
-        pattern-symbols-same (q ∷ᵖ ps) x = λ i. all-symbols-same q x i ⨟ pattern-symbols-same ps x i
+        pattern_symbols_same []ᵖ x = refl
+        pattern_symbols_same (q ∷ᵖ ps) x = λ i. all_symbols_same q x i ⨟ pattern_symbols_same ps x i
 
     walk_same : (fuel : ℕ) (e : RExpr) (x : List ℕ) → walk (with_pop pop M) p fuel e x ≡ walk M p fuel e x
     unfolding walk
     walk_same zero e x = refl
-    walk_same (suc fuel) e x = symbols-in-same _ _ (λ cond y. walk_same fuel cond y) e x
+    walk_same (suc fuel) e x = symbols_in_same _ _ (λ cond y. walk_same fuel cond y) e x
 
-    symbols-same : (e : RExpr) → declare_new_symbols (with_pop pop M) p e ≡ declare_new_symbols M p e
+    symbols_same : (e : RExpr) → declare_new_symbols (with_pop pop M) p e ≡ declare_new_symbols M p e
     unfolding declare_new_symbols
-    symbols-same e = walk_same _ e []
+    symbols_same e = walk_same _ e []
 
-    enter-same : (node : ℕ) → enter (with_pop pop M) p node ≡ enter M p node
+    enter_same : (node : ℕ) → enter (with_pop pop M) p node ≡ enter M p node
     unfolding enter assume
-    enter-same node = λ i. M.push node ⨟ symbols-same (node_at p node).expr i ⨟ assume M (node_at p node).expr
+    enter_same node = λ i. M.push node ⨟ symbols_same (node_at p node).expr i ⨟ assume M (node_at p node).expr
 
     -- Prove up to the check
-    pub ask-same : (node : ℕ) (e : RExpr) → ask_goal (with_pop pop M) p node e ≡ ask_goal M p node e
+    pub ask_same : (node : ℕ) (e : RExpr) → ask_goal (with_pop pop M) p node e ≡ ask_goal M p node e
     unfolding ask_goal check assume_not
-    ask-same node e = λ i. M.push node ⨟ symbols-same e i ⨟ check M e
+    ask_same node e = λ i. M.push node ⨟ symbols_same e i ⨟ check M e
 
 -- ---- whatever a Pop of an empty stack does
 module _ (wrong : Step SolverState) where
-  pop-same : (s : SolverState) → 0 < length s.stack → popped_or wrong s ≡ popped s
+  pop_same : (s : SolverState) → 0 < length s.stack → popped_or wrong s ≡ popped s
   unfolding popped_or pop_to_or popped
-  pop-same s h = at s.stack h
+  pop_same s h = at s.stack h
     where
       at : (items : List StackItem) → 0 < length items → pop_to_or wrong items s ≡ pop_to items s
       at [] h = absurd (not-suc-le-zero h)
       at (item ∷ items) h = refl
 
   -- the end of Prove
-  pub close-same : (s : SolverState) → 0 < length s.stack → close_goal (bodies_or wrong) s ≡ close_goal bodies s
+  pub close_same : (s : SolverState) → 0 < length s.stack → close_goal (bodies_or wrong) s ≡ close_goal bodies s
   unfolding close_goal end_check ◌⨟◌ told
-  close-same s h = pop-same (told Pop s) h
+  close_same s h = pop_same (told Pop s) h
 
   module _ (p : Program) where
-    pop-times-same : (n : ℕ) (s : SolverState) → n ≤ length s.stack → pop_times (bodies_or wrong) p n s ≡ pop_times bodies p n s
+    pop_times_same : (n : ℕ) (s : SolverState) → n ≤ length s.stack → pop_times (bodies_or wrong) p n s ≡ pop_times bodies p n s
     unfolding pop_times
-    pop-times-same zero s h = refl
-    pop-times-same (suc n) s h =
-        ap (pop_times (bodies_or wrong) p n) (pop-same s (omega arith)) ∙ pop-times-same n (popped s) (omega (arith, pop-length s))
+    pop_times_same zero s h = refl
+    pop_times_same (suc n) s h =
+        ap (pop_times (bodies_or wrong) p n) (pop_same s (omega arith)) ∙ pop_times_same n (popped s) (omega (arith, pop_length s))
 
     -- AdjustContext pops where the stack is as long as a node's depth, which is not 0
-    adjust-same : (d node : ℕ) (s : SolverState) → adjust_context (bodies_or wrong) p d node s ≡ adjust_context bodies p d node s
+    adjust_same : (d node : ℕ) (s : SolverState) → adjust_context (bodies_or wrong) p d node s ≡ adjust_context bodies p d node s
     unfolding adjust_context skip ◌⨟◌ either do_either unless do_unless
-    adjust-same zero node s = refl
-    adjust-same (suc d) node s =
-        at (λ t i. enter-same bodies (popped_or wrong) p node i (adjust-same d (node_at p node).parent t i)) (ltb (length s.stack) (suc d)) refl
+    adjust_same zero node s = refl
+    adjust_same (suc d) node s =
+        at (λ t i. enter_same bodies (popped_or wrong) p node i (adjust_same d (node_at p node).parent t i)) (ltb (length s.stack) (suc d)) refl
       where
         next' : Step SolverState
         next' t = enter (bodies_or wrong) p node (adjust_context (bodies_or wrong) p d (node_at p node).parent t)
@@ -134,7 +134,7 @@ module _ (wrong : Step SolverState) where
         full : ((t : SolverState) → next' t ≡ next t) → suc d ≤ length s.stack → (b : Bool)
             → do_unless b (λ t. next' (popped_or wrong t)) s ≡ do_unless b (λ t. next (popped t)) s
         full ih h true = refl
-        full ih h false = ap next' (pop-same s (omega arith)) ∙ ih (popped s)
+        full ih h false = ap next' (pop_same s (omega arith)) ∙ ih (popped s)
 
         at : ((t : SolverState) → next' t ≡ next t) → (b : Bool) → ltb (length s.stack) (suc d) ≡ b
             → do_either b next' (unless (λ t. is_top node t.stack) (λ t. next' (popped_or wrong t))) s
@@ -145,19 +145,19 @@ module _ (wrong : Step SolverState) where
     pub set_same : (node : ℕ) (s : SolverState) → set_context (bodies_or wrong) p node s ≡ set_context bodies p node s
     unfolding set_context
     set_same node s =
-        ap (adjust_context (bodies_or wrong) p (depth p node) node) (pop-times-same (length s.stack - depth p node) s (omega arith))
-        ∙ adjust-same (depth p node) node (pop_times bodies p (length s.stack - depth p node) s)
+        ap (adjust_context (bodies_or wrong) p (depth p node) node) (pop_times_same (length s.stack - depth p node) s (omega arith))
+        ∙ adjust_same (depth p node) node (pop_times bodies p (length s.stack - depth p node) s)
 
     -- Prove to its end, without a model and with one
-    pub prove-same : (node : ℕ) (e : RExpr) (s : SolverState)
+    pub prove_same : (node : ℕ) (e : RExpr) (s : SolverState)
         → close_goal (bodies_or wrong) (ask_goal (bodies_or wrong) p node e s) ≡ close_goal bodies (ask_goal bodies p node e s)
-    prove-same node e s =
-        ap (λ (f : Step SolverState). close_goal (bodies_or wrong) (f s)) (ask-same bodies (popped_or wrong) p node e)
-        ∙ close-same (ask_goal bodies p node e s) (ask-length p node e s)
+    prove_same node e s =
+        ap (λ (f : Step SolverState). close_goal (bodies_or wrong) (f s)) (ask_same bodies (popped_or wrong) p node e)
+        ∙ close_same (ask_goal bodies p node e s) (ask_length p node e s)
 
-    pub prove-model-same : (node : ℕ) (e : RExpr) (s : SolverState)
+    pub prove_model_same : (node : ℕ) (e : RExpr) (s : SolverState)
         → close_goal (bodies_or wrong) (ask_model (bodies_or wrong) (ask_goal (bodies_or wrong) p node e s)) ≡ close_goal bodies (ask_model bodies (ask_goal bodies p node e s))
     unfolding ask_model told
-    prove-model-same node e s =
-        ap (λ (f : Step SolverState). close_goal (bodies_or wrong) (ask_model (bodies_or wrong) (f s))) (ask-same bodies (popped_or wrong) p node e)
-        ∙ close-same (ask_model bodies (ask_goal bodies p node e s)) (ask-length p node e s)
+    prove_model_same node e s =
+        ap (λ (f : Step SolverState). close_goal (bodies_or wrong) (ask_model (bodies_or wrong) (f s))) (ask_same bodies (popped_or wrong) p node e)
+        ∙ close_same (ask_model bodies (ask_goal bodies p node e s)) (ask_length p node e s)

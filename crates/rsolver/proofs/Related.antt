@@ -25,41 +25,41 @@ pub record Keeps {S T : Type 0} (R : S → T → Type 0) (f : Step S) (g : Step 
   pub keeps : (s : S) (t : T) → R s t → R (f s) (g t)
 
 -- at one pair of states: the tests agree, and where they fail the steps keep it
-pub unless-r : {S T : Type 0} (R : S → T → Type 0) (test : S → Bool) (test' : T → Bool) (f : Step S) (g : Step T) (s : S) (t : T) → test s ≡ test' t → R s t
+pub unless_r : {S T : Type 0} (R : S → T → Type 0) (test : S → Bool) (test' : T → Bool) (f : Step S) (g : Step T) (s : S) (t : T) → test s ≡ test' t → R s t
     → (test' t ≡ false → R (f s) (g t)) → R (unless test f s) (unless test' g t)
 unfolding unless do_unless
-unless-r R test test' f g s t same r h = rw same (at (test' t) refl)
+unless_r R test test' f g s t same r h = rw same (at (test' t) refl)
   where
     at : (b : Bool) → test' t ≡ b → R (do_unless b f s) (do_unless b g t)
     at true e = r
     at false e = h e
 
 module _ {S T : Type 0} {R : S → T → Type 0} where
-  pub skip-k : Keeps R skip skip
+  pub skip_k : Keeps R skip skip
   unfolding skip
-  skip-k = record { keeps = λ s t r. r }
+  skip_k = record { keeps = λ s t r. r }
 
-  pub then-k : {f f' : Step S} {g g' : Step T} → Keeps R f g → Keeps R f' g' → Keeps R (f ⨟ f') (g ⨟ g')
+  pub then_k : {f f' : Step S} {g g' : Step T} → Keeps R f g → Keeps R f' g' → Keeps R (f ⨟ f') (g ⨟ g')
   unfolding ◌⨟◌
-  then-k {f} {f'} {g} {g'} F F' = record { keeps = λ s t r. F'.keeps (f s) (g t) (F.keeps s t r) }
+  then_k {f} {f'} {g} {g'} F F' = record { keeps = λ s t r. F'.keeps (f s) (g t) (F.keeps s t r) }
 
-  for-k : {A : Type 0} {P : A → Type 0} {xs : List A} {f : A → Step S} {g : A → Step T}
+  for_k : {A : Type 0} {P : A → Type 0} {xs : List A} {f : A → Step S} {g : A → Step T}
       → All P xs → ((x : A) → P x → Keeps R (f x) (g x)) → Keeps R (for xs f) (for xs g)
   unfolding for skip ◌⨟◌
-  for-k end h = skip-k
-  for-k (more {a = x} k ks) h = then-k (h x k) (for-k ks h)
+  for_k end h = skip_k
+  for_k (more {a = x} k ks) h = then_k (h x k) (for_k ks h)
 
   -- the tests agree, and where they fail the steps keep it
-  pub unless-k : (test : S → Bool) (test' : T → Bool) {f : Step S} {g : Step T}
+  pub unless_k : (test : S → Bool) (test' : T → Bool) {f : Step S} {g : Step T}
       → ((s : S) (t : T) → R s t → test s ≡ test' t)
       → ((s : S) (t : T) → R s t → test' t ≡ false → R (f s) (g t)) → Keeps R (unless test f) (unless test' g)
-  unless-k test test' {f} {g} same h = record { keeps = λ s t r. unless-r R test test' f g s t (same s t r) r (h s t r) }
+  unless_k test test' {f} {g} same h = record { keeps = λ s t r. unless_r R test test' f g s t (same s t r) r (h s t r) }
 
-  pub either-k : (test : S → Bool) (test' : T → Bool) {f f' : Step S} {g g' : Step T}
+  pub either_k : (test : S → Bool) (test' : T → Bool) {f f' : Step S} {g g' : Step T}
       → ((s : S) (t : T) → R s t → test s ≡ test' t) → Keeps R f g
       → ((s : S) (t : T) → R s t → test' t ≡ false → R (f' s) (g' t)) → Keeps R (either test f f') (either test' g g')
   unfolding either do_either
-  either-k test test' {f} {f'} {g} {g'} same F h = record { keeps = λ s t r. rw (same s t r) (at s t r (test' t) refl) }
+  either_k test test' {f} {f'} {g} {g'} same F h = record { keeps = λ s t r. rw (same s t r) (at s t r (test' t) refl) }
     where
       at : (s : S) (t : T) → R s t → (b : Bool) → test' t ≡ b → R (do_either b f f' s) (do_either b g g' t)
       at s t r true e = F.keeps s t r
@@ -72,8 +72,8 @@ all_same f g end h = refl
 all_same f g (more {a = x} k ks) h = ap₂ (λ a b. a && b) (h x k) (all_same f g ks h)
 
 -- a step from equal states
-pub same-k : {S : Type 0} (f : Step S) → Keeps (λ s t. s ≡ t) f f
-same-k f = record { keeps = λ s t e. ap f e }
+pub same_k : {S : Type 0} (f : Step S) → Keeps (λ s t. s ≡ t) f f
+same_k f = record { keeps = λ s t e. ap f e }
 
 -- ---- what is asked of the methods, at markers that have Q
 pub record Marks {S T : Type 0} (M : Methods S) (N : Methods T) (R : S → T → Type 0) (Q : Marker → Type 0) : Type 0 where
@@ -81,13 +81,13 @@ pub record Marks {S T : Type 0} (M : Methods S) (N : Methods T) (R : S → T →
   pub send : (c : Command) → Keeps R (M.send c) (N.send c)
   pub mark : (m : Marker) → Q m → Keeps R (M.add_declaration_marker m) (N.add_declaration_marker m)
 
-pub types-k : {S T : Type 0} {M : Methods S} {N : Methods T} {R : S → T → Type 0} {Q : Marker → Type 0} → Marks M N R Q
+pub types_k : {S T : Type 0} {M : Methods S} {N : Methods T} {R : S → T → Type 0} {Q : Marker → Type 0} → Marks M N R Q
     → (typ : SType) → TypeHas Q typ → Keeps R (declare_new_types M typ) (declare_new_types N typ)
 unfolding declare_new_types declare_type
-types-k X SBool h = skip-k
-types-k X SInt h = skip-k
-types-k X (SUserType decl) h =
-    unless-k _ _ (λ s t r. X.declared (type decl.number) h s t r) (λ s t r e. (then-k (X.send _) (X.mark _ h)).keeps s t r)
+types_k X SBool h = skip_k
+types_k X SInt h = skip_k
+types_k X (SUserType decl) h =
+    unless_k _ _ (λ s t r. X.declared (type decl.number) h s t r) (λ s t r e. (then_k (X.send _) (X.mark _ h)).keeps s t r)
 
 -- p is the program that the second walk reads, whose literals stand at their terms' numbers
 pub record Alike {S T : Type 0} (M : Methods S) (N : Methods T) (R : S → T → Type 0) (Q : Marker → Type 0) (p : Program) : Type 0 where
@@ -106,10 +106,10 @@ itself M Q p =
       marks =
           record {
             declared = λ m h s t e. ap (M.is_declared m) e;
-            send = λ c. same-k (M.send c);
-            mark = λ m h. same-k (M.add_declaration_marker m);
+            send = λ c. same_k (M.send c);
+            mark = λ m h. same_k (M.add_declaration_marker m);
           };
-      miss = same-k M.miss;
+      miss = same_k M.miss;
       named = λ name s t e. ap (M.is_named name) e;
       counted = λ s t e. ap M.declared_count e;
       literal = λ k l h s t e f. ap (declare_new_types M l.typ ⨟ declare_literal M k l) e;
@@ -122,91 +122,91 @@ pub record SameAxioms (Q : Marker → Type 0) (q p : Program) : Type 0 where
   pub term : (k : ℕ) → EveryTerm (having Q p) (axiom_at p k).term
 
 module _ {S T : Type 0} {M : Methods S} {N : Methods T} {R : S → T → Type 0} {Q : Marker → Type 0} {p : Program} (X : Alike M N R Q p) where
-  pub assume-k : (e : RExpr) → Keeps R (assume M e) (assume N e)
+  pub assume_k : (e : RExpr) → Keeps R (assume M e) (assume N e)
   unfolding assume
-  assume-k e =
+  assume_k e =
       record {
         keeps = λ s t r.
             let send = (X.marks.send (Assume e (N.declared_count t))).keeps s t r in
             subst (λ (n : ℕ). R (M.send (Assume e n) s) (N.send (Assume e (N.declared_count t)) t)) (sym (X.counted s t r)) send;
       }
 
-  pub assume-not-k : (e : RExpr) → Keeps R (assume_not M e) (assume_not N e)
+  pub assume_not_k : (e : RExpr) → Keeps R (assume_not M e) (assume_not N e)
   unfolding assume_not
-  assume-not-k e =
+  assume_not_k e =
       record {
         keeps = λ s t r.
             let send = (X.marks.send (AssumeNot e (N.declared_count t))).keeps s t r in
             subst (λ (n : ℕ). R (M.send (AssumeNot e n) s) (N.send (AssumeNot e (N.declared_count t)) t)) (sym (X.counted s t r)) send;
       }
 
-  constant-k : (v : SConstant) → ConstantHas Q v
+  constant_k : (v : SConstant) → ConstantHas Q v
       → Keeps R (declare_new_types M v.typ ⨟ declare_constant M v) (declare_new_types N v.typ ⨟ declare_constant N v)
   unfolding declare_constant
-  constant-k v h = then-k (types-k X.marks v.typ h.typ) (then-k (X.marks.send _) (X.marks.mark _ h.own))
+  constant_k v h = then_k (types_k X.marks v.typ h.typ) (then_k (X.marks.send _) (X.marks.mark _ h.own))
 
   module _ {q : Program} (A : SameAxioms Q q p) where
     module _ (inner : RExpr → List ℕ → Step S) (inner' : RExpr → List ℕ → Step T)
         (inner-k : (e : RExpr) (x : List ℕ) → EveryR (having Q p) e → Keeps R (inner e x) (inner' e x)) where
-      send-axiom-k : (x : List ℕ) (k : ℕ) (explains : List ℕ) (term : Option RExpr) → Q (axiom' k) → All (λ f. Q (function f)) explains → EveryTerm (having Q p) term
+      send_axiom_k : (x : List ℕ) (k : ℕ) (explains : List ℕ) (term : Option RExpr) → Q (axiom' k) → All (λ f. Q (function f)) explains → EveryTerm (having Q p) term
           → Keeps R (send_axiom M q inner x k explains term) (send_axiom N p inner' x k explains term)
       unfolding send_axiom
-      send-axiom-k x k explains none own fs h = X.miss
-      send-axiom-k x k explains (some cond) own fs h =
-          unless-k _ _
+      send_axiom_k x k explains none own fs h = X.miss
+      send_axiom_k x k explains (some cond) own fs h =
+          unless_k _ _
           (λ s t r.
           ap₂ (λ a b. a || not b) (X.marks.declared (axiom' k) own s t r)
           (all_same _ _ fs (λ f i. X.marks.declared (function f) i s t r)))
-          (λ s t r e. (then-k (X.marks.mark (axiom' k) own) (then-k (inner-k cond [] h) (assume-k cond))).keeps s t r)
+          (λ s t r e. (then_k (X.marks.mark (axiom' k) own) (then_k (inner-k cond [] h) (assume_k cond))).keeps s t r)
 
-      include-axiom-k : (x : List ℕ) (k : ℕ) → Q (axiom' k) → Keeps R (include_axiom M q inner x k) (include_axiom N p inner' x k)
+      include_axiom_k : (x : List ℕ) (k : ℕ) → Q (axiom' k) → Keeps R (include_axiom M q inner x k) (include_axiom N p inner' x k)
       unfolding include_axiom
-      include-axiom-k x k own =
+      include_axiom_k x k own =
           subst (λ (a : Axiom). Keeps R (send_axiom M q inner x k a.explains a.term) (send_axiom N p inner' x k (axiom_at p k).explains (axiom_at p k).term))
-          (sym (A.same k own)) (send-axiom-k x k _ _ own (A.explains k) (A.term k))
+          (sym (A.same k own)) (send_axiom_k x k _ _ own (A.explains k) (A.term k))
 
-      operator-k : (op : ROperator) (x : List ℕ) → OperatorHas Q op → Keeps R (declare_operator M q inner op x) (declare_operator N p inner' op x)
+      operator_k : (op : ROperator) (x : List ℕ) → OperatorHas Q op → Keeps R (declare_operator M q inner op x) (declare_operator N p inner' op x)
       unfolding declare_operator declare_function
-      operator-k (BuiltInOperator name) x h = skip-k
-      operator-k (UserDefinedFunction func) x h =
-          unless-k _ _ (λ s t r. X.marks.declared (function func.number) h.own s t r)
+      operator_k (BuiltInOperator name) x h = skip_k
+      operator_k (UserDefinedFunction func) x h =
+          unless_k _ _ (λ s t r. X.marks.declared (function func.number) h.own s t r)
           (λ s t r e.
-          (then-k (for-k h.input_types (types-k X.marks))
-          (then-k (types-k X.marks func.typ h.typ)
-          (then-k (then-k (X.marks.send _) (X.marks.mark _ h.own)) (for-k h.explained_by (include-axiom-k x))))
+          (then_k (for_k h.input_types (types_k X.marks))
+          (then_k (types_k X.marks func.typ h.typ)
+          (then_k (then_k (X.marks.send _) (X.marks.mark _ h.own)) (for_k h.explained_by (include_axiom_k x))))
           ).keeps s t r)
 
       mutual
         unfolding declare_symbols declare_type_of
 
-        symbols-k : (e : RExpr) (x : List ℕ) → EveryR (having Q p) e → Keeps R (declare_symbols M q inner e x) (declare_symbols N p inner' e x)
-        symbols-k (Boolean b) x h = skip-k
-        symbols-k (Integer n) x h = skip-k
-        symbols-k (CustomLiteral k l) x h =
-            unless-k _ _ (λ s t r. ap (λ b. is_tag l || b) (X.named (literal_name l) s t r))
+        symbols_k : (e : RExpr) (x : List ℕ) → EveryR (having Q p) e → Keeps R (declare_symbols M q inner e x) (declare_symbols N p inner' e x)
+        symbols_k (Boolean b) x h = skip_k
+        symbols_k (Integer n) x h = skip_k
+        symbols_k (CustomLiteral k l) x h =
+            unless_k _ _ (λ s t r. ap (λ b. is_tag l || b) (X.named (literal_name l) s t r))
             (λ s t r e. X.literal k l h s t r (or_right (is_tag l) _ e))
-        symbols-k (Id v) x h =
-            unless-k _ _ (λ s t r. ap (λ b. member v.number x || b) (X.marks.declared (constant v.number) h.own s t r))
-            (λ s t r e. (constant-k v h).keeps s t r)
-        symbols-k (FuncAppl op args) x h = then-k (operator-k op x h.0) (all-symbols-k args x h.1)
-        symbols-k (IfThenElse guard thn els) x h =
-            then-k (symbols-k guard x h.0) (then-k (symbols-k thn x h.1) (symbols-k els x h.2))
-        symbols-k (LetExpr v rhs body) x h =
-            then-k (types-k X.marks v.typ h.0.typ) (then-k (symbols-k rhs x h.1) (symbols-k body (v.number ∷ x) h.2))
-        symbols-k (QuantifierExpr univ vv patterns body) x h =
-            then-k (for-k h.0 (λ v i. types-k X.marks v.typ i.typ))
-            (then-k (pattern-symbols-k patterns (with_constants vv x) h.1) (symbols-k body (with_constants vv x) h.2))
+        symbols_k (Id v) x h =
+            unless_k _ _ (λ s t r. ap (λ b. member v.number x || b) (X.marks.declared (constant v.number) h.own s t r))
+            (λ s t r e. (constant_k v h).keeps s t r)
+        symbols_k (FuncAppl op args) x h = then_k (operator_k op x h.0) (all_symbols_k args x h.1)
+        symbols_k (IfThenElse guard thn els) x h =
+            then_k (symbols_k guard x h.0) (then_k (symbols_k thn x h.1) (symbols_k els x h.2))
+        symbols_k (LetExpr v rhs body) x h =
+            then_k (types_k X.marks v.typ h.0.typ) (then_k (symbols_k rhs x h.1) (symbols_k body (v.number ∷ x) h.2))
+        symbols_k (QuantifierExpr univ vv patterns body) x h =
+            then_k (for_k h.0 (λ v i. types_k X.marks v.typ i.typ))
+            (then_k (pattern_symbols_k patterns (with_constants vv x) h.1) (symbols_k body (with_constants vv x) h.2))
 
-        all-symbols-k : (es : RExprs) (x : List ℕ) → EveryRs (having Q p) es → Keeps R (declare_all_symbols M q inner es x) (declare_all_symbols N p inner' es x)
-        all-symbols-k []ʳ x h = skip-k
-        all-symbols-k (e ∷ʳ es) x h = then-k (symbols-k e x h.0) (all-symbols-k es x h.1)
+        all_symbols_k : (es : RExprs) (x : List ℕ) → EveryRs (having Q p) es → Keeps R (declare_all_symbols M q inner es x) (declare_all_symbols N p inner' es x)
+        all_symbols_k []ʳ x h = skip_k
+        all_symbols_k (e ∷ʳ es) x h = then_k (symbols_k e x h.0) (all_symbols_k es x h.1)
 
-        pattern-symbols-k : (ps : RPatterns) (x : List ℕ) → EveryPs (having Q p) ps
+        pattern_symbols_k : (ps : RPatterns) (x : List ℕ) → EveryPs (having Q p) ps
             → Keeps R (declare_pattern_symbols M q inner ps x) (declare_pattern_symbols N p inner' ps x)
-        pattern-symbols-k []ᵖ x h = skip-k
-        pattern-symbols-k (t ∷ᵖ ts) x h = then-k (all-symbols-k t x h.0) (pattern-symbols-k ts x h.1)
+        pattern_symbols_k []ᵖ x h = skip_k
+        pattern_symbols_k (t ∷ᵖ ts) x h = then_k (all_symbols_k t x h.0) (pattern_symbols_k ts x h.1)
 
-    pub walk-k : (fuel : ℕ) (e : RExpr) (x : List ℕ) → EveryR (having Q p) e → Keeps R (walk M q fuel e x) (walk N p fuel e x)
+    pub walk_k : (fuel : ℕ) (e : RExpr) (x : List ℕ) → EveryR (having Q p) e → Keeps R (walk M q fuel e x) (walk N p fuel e x)
     unfolding walk
-    walk-k zero e x h = skip-k
-    walk-k (suc fuel) e x h = symbols-k _ _ (λ cond y i. walk-k fuel cond y i) e x h
+    walk_k zero e x h = skip_k
+    walk_k (suc fuel) e x h = symbols_k _ _ (λ cond y i. walk_k fuel cond y i) e x h

@@ -10,54 +10,54 @@ use borrow.Author.Tests.{eqb-true, eq-eqb}
 use Rattle.rsolver.specs.Methods.{Marker, type, constant, function, axiom'}
 use Rattle.rsolver.specs.SolverState.{same_marker, is_in, with'}
 
-pub marker-refl : (m : Marker) → same_marker m m ≡ true
+pub marker_refl : (m : Marker) → same_marker m m ≡ true
 unfolding same_marker
-marker-refl (type k) = eq-eqb k k refl
-marker-refl (constant k) = eq-eqb k k refl
-marker-refl (function k) = eq-eqb k k refl
-marker-refl (axiom' k) = eq-eqb k k refl
+marker_refl (type k) = eq-eqb k k refl
+marker_refl (constant k) = eq-eqb k k refl
+marker_refl (function k) = eq-eqb k k refl
+marker_refl (axiom' k) = eq-eqb k k refl
 
-pub marker-eq : (m n : Marker) → same_marker m n ≡ true → m ≡ n
+pub marker_eq : (m n : Marker) → same_marker m n ≡ true → m ≡ n
 unfolding same_marker
-marker-eq (type j) (type k) e = ap type (eqb-true j k e)
-marker-eq (type j) (constant k) e = absurd (false≢true e)
-marker-eq (type j) (function k) e = absurd (false≢true e)
-marker-eq (type j) (axiom' k) e = absurd (false≢true e)
-marker-eq (constant j) (type k) e = absurd (false≢true e)
-marker-eq (constant j) (constant k) e = ap constant (eqb-true j k e)
-marker-eq (constant j) (function k) e = absurd (false≢true e)
-marker-eq (constant j) (axiom' k) e = absurd (false≢true e)
-marker-eq (function j) (type k) e = absurd (false≢true e)
-marker-eq (function j) (constant k) e = absurd (false≢true e)
-marker-eq (function j) (function k) e = ap function (eqb-true j k e)
-marker-eq (function j) (axiom' k) e = absurd (false≢true e)
-marker-eq (axiom' j) (type k) e = absurd (false≢true e)
-marker-eq (axiom' j) (constant k) e = absurd (false≢true e)
-marker-eq (axiom' j) (function k) e = absurd (false≢true e)
-marker-eq (axiom' j) (axiom' k) e = ap axiom' (eqb-true j k e)
+marker_eq (type j) (type k) e = ap type (eqb-true j k e)
+marker_eq (type j) (constant k) e = absurd (false≢true e)
+marker_eq (type j) (function k) e = absurd (false≢true e)
+marker_eq (type j) (axiom' k) e = absurd (false≢true e)
+marker_eq (constant j) (type k) e = absurd (false≢true e)
+marker_eq (constant j) (constant k) e = ap constant (eqb-true j k e)
+marker_eq (constant j) (function k) e = absurd (false≢true e)
+marker_eq (constant j) (axiom' k) e = absurd (false≢true e)
+marker_eq (function j) (type k) e = absurd (false≢true e)
+marker_eq (function j) (constant k) e = absurd (false≢true e)
+marker_eq (function j) (function k) e = ap function (eqb-true j k e)
+marker_eq (function j) (axiom' k) e = absurd (false≢true e)
+marker_eq (axiom' j) (type k) e = absurd (false≢true e)
+marker_eq (axiom' j) (constant k) e = absurd (false≢true e)
+marker_eq (axiom' j) (function k) e = absurd (false≢true e)
+marker_eq (axiom' j) (axiom' k) e = ap axiom' (eqb-true j k e)
 
 module _ {A : Type 0} (eq : A → A → Bool) where
   -- the list is as it was, or has the element in front
-  pub with-list : (x : A) (xs : List A) → (with' eq x xs ≡ xs) ⊎ (with' eq x xs ≡ x ∷ xs)
+  pub with_list : (x : A) (xs : List A) → (with' eq x xs ≡ xs) ⊎ (with' eq x xs ≡ x ∷ xs)
   unfolding with'
-  with-list x xs = at (is_in eq x xs)
+  with_list x xs = at (is_in eq x xs)
     where
       at : (b : Bool) → ((if b then xs else x ∷ xs) ≡ xs) ⊎ ((if b then xs else x ∷ xs) ≡ x ∷ xs)
       at true = inl refl
       at false = inr refl
 
-  pub length-with : (x : A) (xs : List A) → length (with' eq x xs) ≡ (if is_in eq x xs then length xs else suc (length xs))
+  pub length_with : (x : A) (xs : List A) → length (with' eq x xs) ≡ (if is_in eq x xs then length xs else suc (length xs))
   unfolding with'
-  length-with x xs = at (is_in eq x xs)
+  length_with x xs = at (is_in eq x xs)
     where
       at : (b : Bool) → length (if b then xs else x ∷ xs) ≡ (if b then length xs else suc (length xs))
       at true = refl
       at false = refl
 
   -- y stands in old + {x} where y is x, or stood in old
-  pub in-with : ((x y : A) → eq x y ≡ true → x ≡ y) → (y x : A) (xs : List A) → is_in eq y (with' eq x xs) ≡ (eq y x || is_in eq y xs)
+  pub in_with : ((x y : A) → eq x y ≡ true → x ≡ y) → (y x : A) (xs : List A) → is_in eq y (with' eq x xs) ≡ (eq y x || is_in eq y xs)
   unfolding with' is_in
-  in-with sound y x xs = at (is_in eq x xs) refl (eq y x) refl
+  in_with sound y x xs = at (is_in eq x xs) refl (eq y x) refl
     where
       at : (b : Bool) → is_in eq x xs ≡ b → (c : Bool) → eq y x ≡ c → is_in eq y (if b then xs else x ∷ xs) ≡ (c || is_in eq y xs)
       at true e true f = rw (sound y x f) e
@@ -69,9 +69,9 @@ module _ {A : Type 0} (eq : A → A → Bool) where
   Distinct [] = Unit {0}
   Distinct (x ∷ xs) = (is_in eq x xs ≡ false) × Distinct xs
 
-  pub distinct-with : (x : A) (xs : List A) → Distinct xs → Distinct (with' eq x xs)
+  pub distinct_with : (x : A) (xs : List A) → Distinct xs → Distinct (with' eq x xs)
   unfolding with'
-  distinct-with x xs h = at (is_in eq x xs) refl
+  distinct_with x xs h = at (is_in eq x xs) refl
     where
       at : (b : Bool) → is_in eq x xs ≡ b → Distinct (if b then xs else x ∷ xs)
       at true e = h

@@ -16,46 +16,46 @@ use Rattle.book.specs.Program.{Program}
 use Rattle.rsolver.specs.Methods.{Marker}
 use Rattle.rsolver.specs.LevelState.{literal_places, level_count, place, literal_place, join_at, forget, has_name, name_in, no_levels}
 use Rattle.book.specs.Extends.{Extends}
-use Rattle.rsolver.proofs.Placed.{MarkerPlaced, LiteralPlaced, place-below}
-use Rattle.rsolver.proofs.AgreeLists.{zeros-blank, name-blank}
+use Rattle.rsolver.proofs.Placed.{MarkerPlaced, LiteralPlaced, place_below}
+use Rattle.rsolver.proofs.AgreeLists.{zeros_blank, name_blank}
 
 -- ---- lists of levels
-pub join-other : (ls : List ℕ) (k j n : ℕ) → ¬ (j ≡ k) → get_or (join_at ls k n) j 0 ≡ get_or ls j 0
+pub join_other : (ls : List ℕ) (k j n : ℕ) → ¬ (j ≡ k) → get_or (join_at ls k n) j 0 ≡ get_or ls j 0
 unfolding join_at
-join-other [] k j n h = refl
-join-other (zero ∷ ls) zero zero n h = absurd (h refl)
-join-other (suc l ∷ ls) zero zero n h = refl
-join-other (zero ∷ ls) zero (suc j) n h = refl
-join-other (suc l ∷ ls) zero (suc j) n h = refl
-join-other (l ∷ ls) (suc k) zero n h = refl
-join-other (l ∷ ls) (suc k) (suc j) n h = join-other ls k j n (λ e. h (ap suc e))
+join_other [] k j n h = refl
+join_other (zero ∷ ls) zero zero n h = absurd (h refl)
+join_other (suc l ∷ ls) zero zero n h = refl
+join_other (zero ∷ ls) zero (suc j) n h = refl
+join_other (suc l ∷ ls) zero (suc j) n h = refl
+join_other (l ∷ ls) (suc k) zero n h = refl
+join_other (l ∷ ls) (suc k) (suc j) n h = join_other ls k j n (λ e. h (ap suc e))
 
-pub forget-zero : (n : ℕ) (ls : List ℕ) (j : ℕ) → get_or ls j 0 ≡ 0 → get_or (forget n ls) j 0 ≡ 0
+pub forget_zero : (n : ℕ) (ls : List ℕ) (j : ℕ) → get_or ls j 0 ≡ 0 → get_or (forget n ls) j 0 ≡ 0
 unfolding forget
-forget-zero n [] j h = refl
-forget-zero n (l ∷ ls) zero h = at (leb n l)
+forget_zero n [] j h = refl
+forget_zero n (l ∷ ls) zero h = at (leb n l)
   where
     at : (x : Bool) → (if x then 0 else l) ≡ 0
     at true = refl
     at false = h
-forget-zero n (l ∷ ls) (suc j) h = forget-zero n ls j h
+forget_zero n (l ∷ ls) (suc j) h = forget_zero n ls j h
 
 -- more literals, where the levels behind the old ones are 0
-pub name-grown : (name : Text) (ts us : List (Option Literal)) (ls : List ℕ) → ((j : ℕ) → length ts ≤ j → get_or ls j 0 ≡ 0)
+pub name_grown : (name : Text) (ts us : List (Option Literal)) (ls : List ℕ) → ((j : ℕ) → length ts ≤ j → get_or ls j 0 ≡ 0)
     → name_in name (ts ++ us) ls ≡ name_in name ts ls
 unfolding name_in
-name-grown name [] us ls h = name-blank name us ls (λ j. h j (omega arith))
-name-grown name (t ∷ ts) us [] h = refl
-name-grown name (t ∷ ts) us (l ∷ ls) h =
-    ap {B = Bool} (λ x. not (eqb l 0) && has_name name t || x) (name-grown name ts us ls (λ j i. h (suc j) (omega arith)))
+name_grown name [] us ls h = name_blank name us ls (λ j. h j (omega arith))
+name_grown name (t ∷ ts) us [] h = refl
+name_grown name (t ∷ ts) us (l ∷ ls) h =
+    ap {B = Bool} (λ x. not (eqb l 0) && has_name name t || x) (name_grown name ts us ls (λ j i. h (suc j) (omega arith)))
 
 -- ---- levels of a program
 pub record Unmarked (p : Program) (ls : List ℕ) : Type 0 where
   pub behind : (j : ℕ) → length p.literals ≤ j → get_or ls (literal_places + j) 0 ≡ 0
 
-pub none-unmarked : (p : Program) → Unmarked p no_levels
+pub none_unmarked : (p : Program) → Unmarked p no_levels
 unfolding no_levels
-none-unmarked p = record { behind = λ j i. zeros-blank level_count (literal_places + j) }
+none_unmarked p = record { behind = λ j i. zeros_blank level_count (literal_places + j) }
 
 -- a literal of the program stands before the places behind it
 placed_below : (p : Program) (k : ℕ) (l : Literal) → LiteralPlaced p k l → k < length p.literals
@@ -66,22 +66,22 @@ placed_below p k l h = at (dec_lt k (length p.literals))
     at (no i) = absurd (none-ne-some l (sym (get_or-eq_default p.literals none (omega arith)) ∙ h.here))
 
 module _ {p : Program} {ls : List ℕ} (u : Unmarked p ls) where
-  pub forget-unmarked : (n : ℕ) → Unmarked p (forget n ls)
-  forget-unmarked n = record { behind = λ j i. forget-zero n ls (literal_places + j) (u.behind j i) }
+  pub forget_unmarked : (n : ℕ) → Unmarked p (forget n ls)
+  forget_unmarked n = record { behind = λ j i. forget_zero n ls (literal_places + j) (u.behind j i) }
 
-  pub mark-unmarked : (m : Marker) → MarkerPlaced m → (n : ℕ) → Unmarked p (join_at ls (place m) n)
-  mark-unmarked m h n =
-      record { behind = λ j i. join-other ls (place m) (literal_places + j) n (λ e. omega (arith, place-below m h)) ∙ u.behind j i }
+  pub mark_unmarked : (m : Marker) → MarkerPlaced m → (n : ℕ) → Unmarked p (join_at ls (place m) n)
+  mark_unmarked m h n =
+      record { behind = λ j i. join_other ls (place m) (literal_places + j) n (λ e. omega (arith, place_below m h)) ∙ u.behind j i }
 
-  pub literal-unmarked : (k : ℕ) (l : Literal) → LiteralPlaced p k l → (n : ℕ) → Unmarked p (join_at ls (literal_place k) n)
+  pub literal_unmarked : (k : ℕ) (l : Literal) → LiteralPlaced p k l → (n : ℕ) → Unmarked p (join_at ls (literal_place k) n)
   unfolding literal_place
-  literal-unmarked k l h n =
+  literal_unmarked k l h n =
       record {
-        behind = λ j i. join-other ls (literal_places + k) (literal_places + j) n (λ e. omega (arith, placed_below p k l h)) ∙ u.behind j i;
+        behind = λ j i. join_other ls (literal_places + k) (literal_places + j) n (λ e. omega (arith, placed_below p k l h)) ∙ u.behind j i;
       }
 
-  pub names-grown : {q : Program} → Extends p q → (name : Text)
+  pub names_grown : {q : Program} → Extends p q → (name : Text)
       → name_in name q.literals (drop literal_places ls) ≡ name_in name p.literals (drop literal_places ls)
-  names-grown x name =
-      ap (λ (ts : List (Option Literal)). name_in name ts (drop literal_places ls)) x.more-literals
-      ∙ name-grown name p.literals x.new-literals (drop literal_places ls) (λ j i. get_or-drop literal_places ls j 0 ∙ u.behind j i)
+  names_grown x name =
+      ap (λ (ts : List (Option Literal)). name_in name ts (drop literal_places ls)) x.more_literals
+      ∙ name_grown name p.literals x.new_literals (drop literal_places ls) (λ j i. get_or-drop literal_places ls j 0 ∙ u.behind j i)

@@ -114,14 +114,14 @@ texts =
     )
     ∷ []
 
-texts-hold : map (λ e. e.0) texts ≡ map (λ e. e.1) texts
+texts_hold : map (λ e. e.0) texts ≡ map (λ e. e.1) texts
 unfolding everything z f g fz literal both said with_axiom with_literals node with_nodes walked moves texts
-texts-hold = refl
+texts_hold = refl
 
 -- a missing axiom is looked up whether or not it would be sent: here it explains g, which is not declared
 missing : List Bool
 missing = misses (with_axiom none []) fz ∷ misses (with_axiom none (1 ∷ [])) fz ∷ misses (with_axiom (some (Id z)) (1 ∷ [])) fz ∷ []
 
-missing-holds : missing ≡ true ∷ true ∷ false ∷ []
+missing_holds : missing ≡ true ∷ true ∷ false ∷ []
 unfolding everything z f g fz with_axiom misses missing
-missing-holds = refl
+missing_holds = refl

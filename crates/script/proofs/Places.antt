@@ -6,9 +6,9 @@ use Rattle.script_text.specs.Script.{call_size}
 use Rattle.script_text.specs.Turned.{next_place}
 
 module _ {more : Bool} (at n : ℕ) where
-  pub next-call : more ≡ true → at + call_size ≡ next_place more at n
+  pub next_call : more ≡ true → at + call_size ≡ next_place more at n
   unfolding next_place
-  next-call e = rw e
+  next_call e = rw e
 
   pub stops_at : more ≡ false → n ≡ next_place more at n
   unfolding next_place

@@ -12,9 +12,9 @@ use Rattle.smt_engines.specs.Reader.{cut, Stack, first, over, height, Reader, li
 use Rattle.command_lines.specs.declared.kinds.LineKind.{LineKind}
 use Rattle.command_lines.specs.declared.kinds.LineKind.TheVariants.{Push, Pop, CheckSat, GetModel, Joins, Foreign}
 use Rattle.command_lines.specs.Lines.{line_at, line_end}
-use Rattle.command_lines.specs.CommandLines.{is_command, ended, line_kind, heard_as, is_ours}
-use Rattle.command_lines.proofs.Cutting.{cut_at, cut-behind, hear-at, end_short, ended_at}
-use Rattle.command_lines.proofs.Reading.{heard-as, is-ours, is_check, check-by}
+use Rattle.command_lines.specs.CommandLines.{is_command, ended, line_kind, heard_as, is-ours}
+use Rattle.command_lines.proofs.Cutting.{cut_at, cut_behind, hear_at, end_short, ended_at}
+use Rattle.command_lines.proofs.Reading.{heard-as, is-ours, is_check, check_by}
 use Rattle.script_checks.specs.declared.Checks.TheVariants as answers
 use Rattle.script_checks.specs.declared.Turn.{Turn}
 use Rattle.script_checks.specs.declared.Turn.TheVariants.{On, Stop}
@@ -28,23 +28,23 @@ pub record Upto (s : Text) (at depth n : ℕ) : Type 0 where
   count : length (checks s) ≡ n + length (checks_from (live stack) (cut (drop at s)))
   pub few : (n ≤ at) × (depth ≤ at)
 
-pub upto-none : (s : Text) → Upto s 0 0 0
+pub upto_none : (s : Text) → Upto s 0 0 0
 unfolding is_foreign foreign_from read checks height
-upto-none s = record { stack = first []; tall = refl; foreign = refl; count = omega arith; few = (omega arith, omega arith) }
+upto_none s = record { stack = first []; tall = refl; foreign = refl; count = omega arith; few = (omega arith, omega arith) }
 
-lost-all : (ls : List Text) → hear_all lost ls ≡ lost
+lost_all : (ls : List Text) → hear_all lost ls ≡ lost
 unfolding hear_all hear
-lost-all [] = refl
-lost-all (l ∷ ls) = lost-all ls
+lost_all [] = refl
+lost_all (l ∷ ls) = lost_all ls
 
-join-height : (st : Stack) (ls : List Text) → height (join st ls) ≡ height st
+join_height : (st : Stack) (ls : List Text) → height (join st ls) ≡ height st
 unfolding height join
-join-height (first l) ls = refl
-join-height (over l st) ls = refl
+join_height (first l) ls = refl
+join_height (over l st) ls = refl
 
-over-height : (l : List Text) (st : Stack) → height (over l st) ≡ suc (height st)
+over_height : (l : List Text) (st : Stack) → height (over l st) ≡ suc (height st)
 unfolding height
-over-height l st = refl
+over_height l st = refl
 
 -- ---- a pop
 record Under (st : Stack) (depth n d m : ℕ) : Type 0 where
@@ -75,9 +75,9 @@ sunk (over l st) (suc depth) n t z = let f : ◌≡◌ {A = ℕ} 0 1 = cc in abs
 
 module _ (s : Text) (at : ℕ) (h : at < length s) where
   -- the last line has no end
-  pub not-ended : (st : Stack) → length s ≤ line_end s at → foreign_from s at st ≡ true
+  pub not_ended : (st : Stack) → length s ≤ line_end s at → foreign_from s at st ≡ true
   unfolding foreign_from
-  not-ended st l = by (ended (drop at s)) refl
+  not_ended st l = by (ended (drop at s)) refl
     where
       by : (x : Bool) → ended (drop at s) ≡ x → (not x || not (all (cut (drop at s)) is_command) || is_lost (hear_all (live st) (cut (drop at s)))) ≡ true
       by true e = absurd (omega (arith, end_short s at e h))
@@ -88,68 +88,68 @@ module _ (s : Text) (at : ℕ) (h : at < length s) where
     next = suc (line_end s at)
 
     -- a line that is none of ours
-    pub foreign-line : (st : Stack) → is_command (line_at s at) ≡ false → foreign_from s at st ≡ true
+    pub foreign_line : (st : Stack) → is_command (line_at s at) ≡ false → foreign_from s at st ≡ true
     unfolding foreign_from all
-    foreign-line st e = rw (cut_at s at h, e) (by (not (ended (drop at s))) _)
+    foreign_line st e = rw (cut_at s at h, e) (by (not (ended (drop at s))) _)
       where
         by : (a b : Bool) → (a || true || b) ≡ true
         by true b = refl
         by false b = refl
 
     -- a line of ours
-    pub ours-line : (st : Stack) (r : Reader) → is_command (line_at s at) ≡ true → hear (live st) (line_at s at) ≡ r
+    pub ours_line : (st : Stack) (r : Reader) → is_command (line_at s at) ≡ true → hear (live st) (line_at s at) ≡ r
         → foreign_from s at st ≡ (not (ended (drop (suc (line_end s at)) s)) || not (all (cut (drop (suc (line_end s at)) s)) is_command) || is_lost (hear_all r (cut (drop (suc (line_end s at)) s))))
     unfolding foreign_from all
-    ours-line st r e q = rw (hear-at (live st) s at h, q, cut_at s at h, e, ended_at s at h l)
+    ours_line st r e q = rw (hear_at (live st) s at h, q, cut_at s at h, e, ended_at s at h l)
 
-    pub lost-line : (st : Stack) → is_command (line_at s at) ≡ true → hear (live st) (line_at s at) ≡ lost → foreign_from s at st ≡ true
+    pub lost_line : (st : Stack) → is_command (line_at s at) ≡ true → hear (live st) (line_at s at) ≡ lost → foreign_from s at st ≡ true
     unfolding is_lost
-    lost-line st e q = ours-line st lost e q ∙ rw (lost-all (cut (drop (suc (line_end s at)) s))) (by (not (ended (drop (suc (line_end s at)) s))) (not (all (cut (drop (suc (line_end s at)) s)) is_command)))
+    lost_line st e q = ours_line st lost e q ∙ rw (lost_all (cut (drop (suc (line_end s at)) s))) (by (not (ended (drop (suc (line_end s at)) s))) (not (all (cut (drop (suc (line_end s at)) s)) is_command)))
       where
         by : (a b : Bool) → (a || b || true) ≡ true
         by true b = refl
         by false b = or-true b
 
-    count-line : (st : Stack) (r : Reader) → hear (live st) (line_at s at) ≡ r
+    count_line : (st : Stack) (r : Reader) → hear (live st) (line_at s at) ≡ r
         → length (checks_from (live st) (cut (drop at s))) ≡ length (noted (is_check (line_kind (line_at s at))) (live st)) + length (checks_from r (cut (drop (suc (line_end s at)) s)))
     unfolding checks_from
-    count-line st r q =
-        rw (cut_at s at h, q, check-by (line_at s at))
+    count_line st r q =
+        rw (cut_at s at h, q, check_by (line_at s at))
         (length-append (noted (is_check (line_kind (line_at s at))) (live st)) (checks_from r (cut (drop (suc (line_end s at)) s))))
 
     heard : (st : Stack) (k : LineKind) → line_kind (line_at s at) ≡ k → hear (live st) (line_at s at) ≡ hear_kind (heard_as k) (line_at s at) st
     unfolding hear
     heard st k e = ap {B = Reader} (λ j. hear_kind j (line_at s at) st) (heard-as (line_at s at) ∙ ap heard_as e)
 
-    ours : (k : LineKind) → line_kind (line_at s at) ≡ k → is_command (line_at s at) ≡ is_ours k
-    ours k e = is-ours (line_at s at) ∙ ap is_ours e
+    ours : (k : LineKind) → line_kind (line_at s at) ≡ k → is_command (line_at s at) ≡ is-ours k
+    ours k e = is-ours (line_at s at) ∙ ap is-ours e
 
     -- one line on
     module _ {depth n : ℕ} (u : Upto s at depth n) where
-      on : (k : LineKind) → line_kind (line_at s at) ≡ k → is_ours k ≡ true → (su : Stack) → hear_kind (heard_as k) (line_at s at) u.stack ≡ live su
+      on : (k : LineKind) → line_kind (line_at s at) ≡ k → is-ours k ≡ true → (su : Stack) → hear_kind (heard_as k) (line_at s at) u.stack ≡ live su
           → (d m : ℕ) → height su ≡ suc d → m ≡ n + length (noted (is_check k) (live u.stack)) → m ≤ suc at → d ≤ suc at → Upto s (suc (line_end s at)) d m
       unfolding line_end foreign_from
       on k e o su q d m t c few deep =
           let r = heard u.stack k e ∙ q in
-          let step : length (checks_from (live u.stack) (cut (drop at s))) ≡ length (noted (is_check k) (live u.stack)) + length (checks_from (live su) (cut (drop (suc (line_end s at)) s))) = rw (ap is_check e) at (count-line u.stack (live su) r) in
+          let step : length (checks_from (live u.stack) (cut (drop at s))) ≡ length (noted (is_check k) (live u.stack)) + length (checks_from (live su) (cut (drop (suc (line_end s at)) s))) = rw (ap is_check e) at (count_line u.stack (live su) r) in
           record {
             stack = su;
             tall = t;
-            foreign = u.foreign ∙ ours-line u.stack (live su) (ours k e ∙ o) r;
+            foreign = u.foreign ∙ ours_line u.stack (live su) (ours k e ∙ o) r;
             count = omega (arith, u.count, step, c);
             few = (omega arith, omega arith);
           }
 
       -- by the line's kind
       pub go_on : {d m : ℕ} {k : LineKind} {r : Turn} → k ≡ line_kind (line_at s at) → r ≡ turned k depth n → r ≡ On d m → Upto s (suc (line_end s at)) d m
-      unfolding turned heard_as is_ours hear_kind is_check noted
+      unfolding turned heard_as is-ours hear_kind is_check noted
       go_on {d} {m} {k} {r} e t o = by k (sym e) (sym t ∙ o)
         where
           by : (k : LineKind) → line_kind (line_at s at) ≡ k → turned k depth n ≡ On d m → Upto s (suc (line_end s at)) d m
           by LineKind.Push q z =
               let i : suc depth ≡ d = cc in
               let j : n ≡ m = cc in
-              on Push q refl (over [] u.stack) refl d m (omega (arith, over-height [] u.stack, u.tall, i)) (omega (arith, j)) (omega (arith, j, u.few.0)) (omega (arith, i, u.few.1))
+              on Push q refl (over [] u.stack) refl d m (omega (arith, over_height [] u.stack, u.tall, i)) (omega (arith, j)) (omega (arith, j, u.few.0)) (omega (arith, i, u.few.1))
           by LineKind.Pop q z =
               let w = under u.stack depth n u.tall z in
               on Pop q refl w.below w.drops d m w.left (omega (arith, w.same)) (omega (arith, w.same, u.few.0)) (omega (arith, w.less, u.few.1))
@@ -164,34 +164,34 @@ module _ (s : Text) (at : ℕ) (h : at < length s) where
           by LineKind.Joins q z =
               let i : depth ≡ d = cc in
               let j : n ≡ m = cc in
-              on Joins q refl (join u.stack (line_at s at ∷ [])) refl d m (omega (arith, join-height u.stack (line_at s at ∷ []), u.tall, i)) (omega (arith, j)) (omega (arith, j, u.few.0)) (omega (arith, i, u.few.1))
+              on Joins q refl (join u.stack (line_at s at ∷ [])) refl d m (omega (arith, join_height u.stack (line_at s at ∷ []), u.tall, i)) (omega (arith, j)) (omega (arith, j, u.few.0)) (omega (arith, i, u.few.1))
           by LineKind.Foreign q z = let f : ◌≡◌ {A = ℕ} 0 1 = cc in absurd (omega arith)
 
-      pub go-stop : {k : LineKind} {r : Turn} → k ≡ line_kind (line_at s at) → r ≡ turned k depth n → r ≡ Stop → is_foreign s ≡ true
-      unfolding turned heard_as is_ours hear_kind
-      go-stop {k} e t o = u.foreign ∙ by k (sym e) (sym t ∙ o)
+      pub go_stop : {k : LineKind} {r : Turn} → k ≡ line_kind (line_at s at) → r ≡ turned k depth n → r ≡ Stop → is_foreign s ≡ true
+      unfolding turned heard_as is-ours hear_kind
+      go_stop {k} e t o = u.foreign ∙ by k (sym e) (sym t ∙ o)
         where
           by : (k : LineKind) → line_kind (line_at s at) ≡ k → turned k depth n ≡ Stop → foreign_from s at u.stack ≡ true
           by LineKind.Push q z = let f : ◌≡◌ {A = ℕ} 0 1 = cc in absurd (omega arith)
-          by LineKind.Pop q z = lost-line u.stack (ours Pop q) (heard u.stack Pop q ∙ sunk u.stack depth n u.tall z)
+          by LineKind.Pop q z = lost_line u.stack (ours Pop q) (heard u.stack Pop q ∙ sunk u.stack depth n u.tall z)
           by LineKind.CheckSat q z = let f : ◌≡◌ {A = ℕ} 0 1 = cc in absurd (omega arith)
           by LineKind.GetModel q z = let f : ◌≡◌ {A = ℕ} 0 1 = cc in absurd (omega arith)
           by LineKind.Joins q z = let f : ◌≡◌ {A = ℕ} 0 1 = cc in absurd (omega arith)
-          by LineKind.Foreign q z = foreign-line u.stack (ours Foreign q)
+          by LineKind.Foreign q z = foreign_line u.stack (ours Foreign q)
 
 -- ---- what is answered
 pub is-foreign : (s : Text) → is_foreign s ≡ true → answers.Foreign ≡ check_count s
 unfolding check_count answered
 is-foreign s e = rw e
 
-pub open-foreign : (s : Text) (at : ℕ) {depth n : ℕ} → Upto s at depth n → at < length s → length s ≤ line_end s at → answers.Foreign ≡ check_count s
-open-foreign s at u h l = is-foreign s (u.foreign ∙ not-ended s at h u.stack l)
+pub open_foreign : (s : Text) (at : ℕ) {depth n : ℕ} → Upto s at depth n → at < length s → length s ≤ line_end s at → answers.Foreign ≡ check_count s
+open_foreign s at u h l = is-foreign s (u.foreign ∙ not_ended s at h u.stack l)
 
-pub all-counted : (s : Text) (at : ℕ) {depth n : ℕ} → Upto s at depth n → length s ≤ at → answers.Counted n ≡ check_count s
+pub all_counted : (s : Text) (at : ℕ) {depth n : ℕ} → Upto s at depth n → length s ≤ at → answers.Counted n ≡ check_count s
 unfolding check_count answered foreign_from ended all hear_all is_lost checks_from
-all-counted s at {n = n} u h =
+all_counted s at {n = n} u h =
     let behind : drop at s ≡ [] = drop_of_length-le s {i = at} h in
-    let none : cut (drop at s) ≡ [] = cut-behind s at h in
+    let none : cut (drop at s) ≡ [] = cut_behind s at h in
     let f : is_foreign s ≡ false = u.foreign ∙ rw (none, behind) in
     let c : length (checks s) ≡ n + 0 = u.count ∙ rw none in
     rw f (ap answers.Counted (omega (arith, c)))

@@ -13,7 +13,7 @@ use Rattle.command_lines.specs.Lines.{line_at, line_end}
 use Rattle.command_lines.specs.CommandLines.{is_command}
 use Rattle.command_lines.proofs.Cutting.{cut_at}
 use Rattle.script_checks.specs.ScriptChecks.{noted, checks_from, foreign_from}
-use Rattle.script_checks.proofs.Reading.{not-ended, foreign-line, ours-line, lost-line}
+use Rattle.script_checks.proofs.Reading.{not_ended, foreign_line, ours_line, lost_line}
 
 pub record Stepped (s : Text) (at : ℕ) (st : Stack) : Type 0 where
   pub stack : Stack
@@ -25,32 +25,32 @@ pub record Stepped (s : Text) (at : ℕ) (st : Stack) : Type 0 where
       checks_from (live st) (cut (drop at s)) ≡ noted (same (line_at s at) CMD_CHECK_SAT) (live st) ++ checks_from (live stack) (cut (drop (suc (line_end s at)) s))
 
 module _ (s : Text) (at : ℕ) (h : at < length s) (st : Stack) (o : foreign_from s at st ≡ false) where
-  line-ends : line_end s at < length s
-  line-ends = by (dec_lt (line_end s at) (length s))
+  line_ends : line_end s at < length s
+  line_ends = by (dec_lt (line_end s at) (length s))
     where
       by : Dec (line_end s at < length s) → line_end s at < length s
       by (yes l) = l
-      by (no l) = absurd (true≢false (sym (not-ended s at h st (omega arith)) ∙ o))
+      by (no l) = absurd (true≢false (sym (not_ended s at h st (omega arith)) ∙ o))
 
-  line-ours : is_command (line_at s at) ≡ true
-  line-ours = by (is_command (line_at s at)) refl
+  line_ours : is_command (line_at s at) ≡ true
+  line_ours = by (is_command (line_at s at)) refl
     where
       by : (x : Bool) → is_command (line_at s at) ≡ x → x ≡ true
       by true e = refl
-      by false e = absurd (true≢false (sym (foreign-line s at h line-ends st e) ∙ o))
+      by false e = absurd (true≢false (sym (foreign_line s at h line_ends st e) ∙ o))
 
   pub step : Stepped s at st
   unfolding foreign_from checks_from
   step = by (hear (live st) (line_at s at)) refl
     where
       by : (r : Reader) → hear (live st) (line_at s at) ≡ r → Stepped s at st
-      by lost e = absurd (true≢false (sym (lost-line s at h line-ends st line-ours e) ∙ o))
+      by lost e = absurd (true≢false (sym (lost_line s at h line_ends st line_ours e) ∙ o))
       by (live su) e =
           record {
             stack = su;
-            inside = line-ends;
-            command = line-ours;
+            inside = line_ends;
+            command = line_ours;
             heard = e;
-            ours = sym (ours-line s at h line-ends st (live su) line-ours e) ∙ o;
+            ours = sym (ours_line s at h line_ends st (live su) line_ours e) ∙ o;
             checks = rw (cut_at s at h, e);
           }

@@ -14,30 +14,30 @@ lowered zero n h = absurd (h refl)
 lowered (suc d) n h = let e : suc d - 1 ≡ d = omega arith in ap (λ (i : ℕ). On i n) e
 
 module _ {k : LineKind} (d n : ℕ) where
-  pub turn-push : k ≡ Push → On (d + 1) n ≡ turned k d n
+  pub turn_push : k ≡ Push → On (d + 1) n ≡ turned k d n
   unfolding turned
-  turn-push e = rw (e, add-one d)
+  turn_push e = rw (e, add-one d)
 
-  pub turn-lost : k ≡ Pop → d ≡ 0 → Stop ≡ turned k d n
+  pub turn_lost : k ≡ Pop → d ≡ 0 → Stop ≡ turned k d n
   unfolding turned lower
-  turn-lost e z = rw (e, z)
+  turn_lost e z = rw (e, z)
 
-  pub turn-pop : k ≡ Pop → (d ≡ 0 → ⊥) → On (d - 1) n ≡ turned k d n
+  pub turn_pop : k ≡ Pop → (d ≡ 0 → ⊥) → On (d - 1) n ≡ turned k d n
   unfolding turned
-  turn-pop e z = rw e (lowered d n z)
+  turn_pop e z = rw e (lowered d n z)
 
-  pub turn-check : k ≡ CheckSat → On d (n + 1) ≡ turned k d n
+  pub turn_check : k ≡ CheckSat → On d (n + 1) ≡ turned k d n
   unfolding turned
-  turn-check e = rw (e, add-one n)
+  turn_check e = rw (e, add-one n)
 
-  pub turn-model : k ≡ GetModel → On d n ≡ turned k d n
+  pub turn_model : k ≡ GetModel → On d n ≡ turned k d n
   unfolding turned
-  turn-model e = rw e
+  turn_model e = rw e
 
-  pub turn-joins : k ≡ Joins → On d n ≡ turned k d n
+  pub turn_joins : k ≡ Joins → On d n ≡ turned k d n
   unfolding turned
-  turn-joins e = rw e
+  turn_joins e = rw e
 
-  pub turn-foreign : k ≡ Foreign → Stop ≡ turned k d n
+  pub turn_foreign : k ≡ Foreign → Stop ≡ turned k d n
   unfolding turned
-  turn-foreign e = rw e
+  turn_foreign e = rw e

@@ -35,6 +35,6 @@ outputs =
     ∷ (script_output (take 15 (input [] (1 ∷ 0 ∷ 0 ∷ []))), ascii "; stopped\n")
     ∷ []
 
-pub outputs-hold : map (λ e. e.0) outputs ≡ map (λ e. e.1) outputs
+pub outputs_hold : map (λ e. e.0) outputs ≡ map (λ e. e.1) outputs
 unfolding outputs
-outputs-hold = refl
+outputs_hold = refl

@@ -20,14 +20,14 @@ module _ (input : List ℕ) where
     unfolding is_cut
     no_length k = rw (le-ltb input_most (length input) h, lt-ltb (length input) number_size k)
 
-    pub book-cut : number_size ≤ length input → {n : ℕ} → n ≡ number_size + word input 0 → ltb (length input) n ≡ is_cut input
+    pub book_cut : number_size ≤ length input → {n : ℕ} → n ≡ number_size + word input 0 → ltb (length input) n ≡ is_cut input
     unfolding is_cut
-    book-cut k e = rw (le-ltb input_most (length input) h, le-ltb (length input) number_size k, e)
+    book_cut k e = rw (le-ltb input_most (length input) h, le-ltb (length input) number_size k, e)
 
-  pub has-length : is_cut input ≡ false → number_size ≤ length input
+  pub has_length : is_cut input ≡ false → number_size ≤ length input
   unfolding is_cut
-  has-length e = ltb-false (length input) number_size (or_right (ltb input_most (length input)) (ltb (length input) number_size) (or_left (ltb input_most (length input) || ltb (length input) number_size) (ltb (length input) (number_size + word input 0)) e))
+  has_length e = ltb-false (length input) number_size (or_right (ltb input_most (length input)) (ltb (length input) number_size) (or_left (ltb input_most (length input) || ltb (length input) number_size) (ltb (length input) (number_size + word input 0)) e))
 
-  pub has-book : is_cut input ≡ false → number_size + word input 0 ≤ length input
+  pub has_book : is_cut input ≡ false → number_size + word input 0 ≤ length input
   unfolding is_cut
-  has-book e = ltb-false (length input) (number_size + word input 0) (or_right (ltb input_most (length input) || ltb (length input) number_size) (ltb (length input) (number_size + word input 0)) e)
+  has_book e = ltb-false (length input) (number_size + word input 0) (or_right (ltb input_most (length input) || ltb (length input) number_size) (ltb (length input) (number_size + word input 0)) e)

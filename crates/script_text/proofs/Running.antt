@@ -15,10 +15,10 @@ use Rattle.script_text.specs.declared.answers.Turn.{Turn}
 use Rattle.script_text.specs.Script.{number_size, call_size, shape, turn, Ran, onward, run_for, run, is_cut, book_of, calls_of, last_session}
 use Rattle.script_text.specs.Turned.{Turned, next_place}
 
-onward-same : (more : Bool) (t : Text) (s : Session) {f g : Session → Ran} → ((u : Session) → f u ≡ g u) → onward more t s f ≡ onward more t s g
+onward_same : (more : Bool) (t : Text) (s : Session) {f g : Session → Ran} → ((u : Session) → f u ≡ g u) → onward more t s f ≡ onward more t s g
 unfolding onward
-onward-same false t s h = refl
-onward-same true t s h = λ i. record { text = t ++ (h s i).text; session = (h s i).session }
+onward_same false t s h = refl
+onward_same true t s h = λ i. record { text = t ++ (h s i).text; session = (h s i).session }
 
 -- any count that is enough gives the same
 enough : (b : Book) (m n : ℕ) (cs : List ℕ) (s : Session) → length cs ≤ m → length cs ≤ n → run_for m b cs s ≡ run_for n b cs s
@@ -31,26 +31,26 @@ enough b (suc m) zero (c ∷ cs) s h k = absurd (omega arith)
 enough b (suc m) (suc n) [] s h k = refl
 enough b (suc m) (suc n) (c ∷ cs) s h k =
     let p = turn b s (shape (c ∷ cs)) in
-    onward-same p.more p.text p.session λ u. enough b m n (drop call_size (c ∷ cs)) u (omega (arith, length-drop call_size (c ∷ cs))) (omega (arith, length-drop call_size (c ∷ cs)))
+    onward_same p.more p.text p.session λ u. enough b m n (drop call_size (c ∷ cs)) u (omega (arith, length-drop call_size (c ∷ cs))) (omega (arith, length-drop call_size (c ∷ cs)))
 
 -- the last session of what is left
 unfoldable last_of : (more : Bool) → Book → List ℕ → Session → Session
 last_of false b cs s = s
 last_of true b cs s = (run b cs s).session
 
-onward-last : (more : Bool) (t : Text) (s : Session) (b : Book) (cs : List ℕ) → (onward more t s (run b cs)).session ≡ last_of more b cs s
+onward_last : (more : Bool) (t : Text) (s : Session) (b : Book) (cs : List ℕ) → (onward more t s (run b cs)).session ≡ last_of more b cs s
 unfolding onward last_of
-onward-last false t s b cs = refl
-onward-last true t s b cs = refl
+onward_last false t s b cs = refl
+onward_last true t s b cs = refl
 
 run_step : (b : Book) (cs : List ℕ) (s : Session) → 0 < length cs → (run b cs s).session ≡ last_of (turn b s (shape cs)).more b (drop call_size cs) (turn b s (shape cs)).session
 unfolding run run_for
 run_step b [] s h = absurd (omega arith)
 run_step b (c ∷ cs) s h =
     let p = turn b s (shape (c ∷ cs)) in
-    let e = onward-same p.more p.text p.session {f = run_for (length cs) b (drop call_size (c ∷ cs))} {g = run b (drop call_size (c ∷ cs))} λ u.
+    let e = onward_same p.more p.text p.session {f = run_for (length cs) b (drop call_size (c ∷ cs))} {g = run b (drop call_size (c ∷ cs))} λ u.
     enough b (length cs) (length (drop call_size (c ∷ cs))) (drop call_size (c ∷ cs)) u (omega (arith, length-drop call_size (c ∷ cs))) (omega arith) in
-    (λ i. (e i).session) ∙ onward-last p.more p.text p.session b (drop call_size (c ∷ cs))
+    (λ i. (e i).session) ∙ onward_last p.more p.text p.session b (drop call_size (c ∷ cs))
 
 drop-drop : (n k : ℕ) (l : List ℕ) → drop k (drop n l) ≡ drop (n + k) l
 drop-drop zero k l = ap (λ (j : ℕ). drop j l) (sym (zero-add k))
@@ -78,23 +78,23 @@ module _ (b : Book) (calls : List ℕ) where
       ap (λ (n : ℕ). (run b (drop n calls) s').session) e ∙ sym (left_at r.more at s')
       ∙ (λ i. last_of (x.more i) b (sym (drop-drop at call_size calls) i) (x.session i)) ∙ sym (run_step b (drop at calls) s (omega (arith, length-drop at calls)))
 
-  moves-on : (more : Bool) (at : ℕ) → at < length calls → at < next_place more at (length calls)
+  moves_on : (more : Bool) (at : ℕ) → at < length calls → at < next_place more at (length calls)
   unfolding next_place
-  moves-on true at h = omega arith
-  moves-on false at h = h
+  moves_on true at h = omega arith
+  moves_on false at h = h
 
   pub further : (more : Bool) {at k : ℕ} → at < length calls → k ≡ next_place more at (length calls) → at < k
-  further more {at} h e = omega (arith, moves-on more at h, e)
+  further more {at} h e = omega (arith, moves_on more at h, e)
 
 -- the front of the input
 module _ (input : List ℕ) where
-  pub last-cut : is_cut input ≡ true → fresh_session ≡ last_session input
+  pub last_cut : is_cut input ≡ true → fresh_session ≡ last_session input
   unfolding last_session
-  last-cut e = rw e
+  last_cut e = rw e
 
-  pub last-run : is_cut input ≡ false → {at : ℕ} → at ≡ number_size + word input 0 → (run (take (at - number_size) (drop number_size input)) (take (length input - at) (drop at input)) fresh_session).session ≡ last_session input
+  pub last_run : is_cut input ≡ false → {at : ℕ} → at ≡ number_size + word input 0 → (run (take (at - number_size) (drop number_size input)) (take (length input - at) (drop at input)) fresh_session).session ≡ last_session input
   unfolding last_session book_of calls_of
-  last-run e {at} h =
+  last_run e {at} h =
       let n : at - number_size ≡ word input 0 = omega (arith, h) in
       let all : take (length input - at) (drop at input) ≡ drop at input = take_all (length input - at) (drop at input) (omega (arith, length-drop at input)) in
       rw (e, n, all, h)

@@ -46,9 +46,9 @@ module _ (calls : List ℕ) (at : ℕ) where
     unfolding shape_of
     no_kind h2 h1 = whole ∙ rw (ne_eqb kind 1 h1, ne_eqb kind 2 h2)
 
-    pub move-with-term : kind ≡ 1 → (term ≡ 0 → ⊥) → shape (drop at calls) ≡ stopping
+    pub move_with_term : kind ≡ 1 → (term ≡ 0 → ⊥) → shape (drop at calls) ≡ stopping
     unfolding shape_of
-    move-with-term e h0 = whole ∙ rw (e, ne_eqb term 0 h0)
+    move_with_term e h0 = whole ∙ rw (e, ne_eqb term 0 h0)
 
     pub is_move : kind ≡ 1 → term ≡ 0 → shape (drop at calls) ≡ moving node
     unfolding shape_of
@@ -57,29 +57,29 @@ module _ (calls : List ℕ) (at : ℕ) where
 -- a turn that leaves the closing buffer alone
 pub widened : {p : Printed} {r : Turn} {s : Session} {t : List ℕ} (closing : List ℕ) → Turned p r s t [] → Turned p r s t closing
 widened {r = r} {t = t} closing x =
-    let none : r.closed ≡ 0 = omega (arith, x.closing-fits) in
+    let none : r.closed ≡ 0 = omega (arith, x.closing_fits) in
     let same : take r.closed closing ≡ take r.closed [] = rw none in
     record {
       printed = ap {B = List ℕ} (λ (c : List ℕ). take r.written t ++ c) same ∙ x.printed;
-      text-fits = x.text-fits;
-      closing-fits = omega (arith, none);
+      text_fits = x.text_fits;
+      closing_fits = omega (arith, none);
       session = x.session;
       more = x.more;
     }
 
 -- what has been read, by its flags
 module _ (w : Wanted) where
-  pub wants-stop : w.stops ≡ true → wants w ≡ stopping
+  pub wants_stop : w.stops ≡ true → wants w ≡ stopping
   unfolding wants
-  wants-stop e = rw e
+  wants_stop e = rw e
 
-  pub wants-ask : w.stops ≡ false → w.asks ≡ true → wants w ≡ asking w.node w.term
+  pub wants_ask : w.stops ≡ false → w.asks ≡ true → wants w ≡ asking w.node w.term
   unfolding wants
-  wants-ask e f = rw (e, f)
+  wants_ask e f = rw (e, f)
 
-  pub wants-move : w.stops ≡ false → w.asks ≡ false → wants w ≡ moving w.node
+  pub wants_move : w.stops ≡ false → w.asks ≡ false → wants w ≡ moving w.node
   unfolding wants
-  wants-move e f = rw (e, f)
+  wants_move e f = rw (e, f)
 
 pub by_shape : (b : Book) (s : Session) {r : Turn} {s' : Session} {t closing : List ℕ} {f g : Shape} → g ≡ f → Turned (turn b s f) r s' t closing → Turned (turn b s g) r s' t closing
 by_shape b s e x = rw e x

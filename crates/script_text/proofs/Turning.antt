@@ -21,32 +21,32 @@ use Rattle.script_text.specs.declared.answers.Asked.{Asked}
 use Rattle.script_text.specs.declared.answers.Turn.{Turn}
 use Rattle.script_text.specs.Script.{text_size, stopped, stopping, moving, asking, desk, told, Printed, reply, answered, turn}
 use Rattle.script_text.specs.Turned.{Desk, Shows, Tells, is_refused, Turned, Closes}
-use Rattle.script_text.proofs.Telling.{told-shows}
+use Rattle.script_text.proofs.Telling.{told_shows}
 
 -- ---- a call hangs only on the lengths of what it is lent
 abbrev pub Alike : Host → Host → Type 0
 Alike h g = (length h.scratch ≡ length g.scratch) × (length h.text ≡ length g.text) × (length h.reason ≡ length g.reason)
 
 module _ (b : Book) (s : Session) (h g : Host) (e : Alike h g) where
-  same-fitting : (w : Written) → fitting h w ≡ fitting g w
+  same_fitting : (w : Written) → fitting h w ≡ fitting g w
   unfolding fitting
-  same-fitting w = rw (e.1, e.2)
+  same_fitting w = rw (e.1, e.2)
 
   same_move : (node : ℕ) → call b s (move_to h node) ≡ call b s (move_to g node)
   unfolding call move_call
-  same_move node = rw (e.0, same-fitting _)
+  same_move node = rw (e.0, same_fitting _)
 
-  same-ask : (node term : ℕ) → call b s (ask_for h node term) ≡ call b s (ask_for g node term)
+  same_ask : (node term : ℕ) → call b s (ask_for h node term) ≡ call b s (ask_for g node term)
   unfolding call ask_call
-  same-ask node term = rw (e.0, same-fitting _)
+  same_ask node term = rw (e.0, same_fitting _)
 
-  same-reply : (ok : Bool) (t : Text) → call b s (reply_with h ok t) ≡ call b s (reply_with g ok t)
+  same_reply : (ok : Bool) (t : Text) → call b s (reply_with h ok t) ≡ call b s (reply_with g ok t)
   unfolding call reply_call
-  same-reply ok t = rw (e.0, same-fitting _)
+  same_reply ok t = rw (e.0, same_fitting _)
 
-on-desk : (sc tx : List ℕ) → length sc ≡ scratch_least → length tx ≡ text_size → Alike (lent sc tx []) desk
+on_desk : (sc tx : List ℕ) → length sc ≡ scratch_least → length tx ≡ text_size → Alike (lent sc tx []) desk
 unfolding desk
-on-desk sc tx x y = (x ∙ sym (length-replicate {A = ℕ} scratch_least 0), y ∙ sym (length-replicate {A = ℕ} text_size 0), refl)
+on_desk sc tx x y = (x ∙ sym (length-replicate {A = ℕ} scratch_least 0), y ∙ sym (length-replicate {A = ℕ} text_size 0), refl)
 
 -- ---- one call
 -- what a call shows and leaves
@@ -60,60 +60,60 @@ did : (b : Book) (s : Session) (c : Call) {o : Outcome Written} {r : Called} {t1
 unfolding called left
 did b s c {t1 = t1} {t2 = t2} {n = n} e r x =
     let y : Tells (map_outcome values (call b s c)) n t1 t2 = rw r.answer at x in
-    rw (← e) (record { answer = r.answer; session = r.session; shows = told-shows (host_of c) (call b s c) (call_fits b s c) r.text' y })
+    rw (← e) (record { answer = r.answer; session = r.session; shows = told_shows (host_of c) (call b s c) (call_fits b s c) r.text' y })
 
-shows-at : {t : Text} {n m : ℕ} {buffer : List ℕ} → m ≡ n → Shows t n buffer → Shows t m buffer
-shows-at e x = rw e x
+shows_at : {t : Text} {n m : ℕ} {buffer : List ℕ} → m ≡ n → Shows t n buffer → Shows t m buffer
+shows_at e x = rw e x
 
 -- a turn of one text
 module _ {r : Turn} {p : Printed} {t : List ℕ} (closing : List ℕ) where
   alone : {s : Session} → r.closed ≡ 0 → Shows p.text r.written t → s ≡ p.session → r.more ≡ p.more → Turned p r s t closing
   alone e x es em = record {
     printed = ap {B = List ℕ} (λ (k : ℕ). take r.written t ++ take k closing) e ∙ append-nil _ ∙ x.shown;
-    text-fits = x.fits;
-    closing-fits = omega (arith, e);
+    text_fits = x.fits;
+    closing_fits = omega (arith, e);
     session = es;
     more = em;
   }
 
-pub stop-turned : (b : Book) (s : Session) {r : Turn} {t : List ℕ} (closing : List ℕ) → Shows stopped r.written t × (r.closed ≡ 0) × (r.more ≡ false) → Turned (turn b s stopping) r s t closing
+pub stop_turned : (b : Book) (s : Session) {r : Turn} {t : List ℕ} (closing : List ℕ) → Shows stopped r.written t × (r.closed ≡ 0) × (r.more ≡ false) → Turned (turn b s stopping) r s t closing
 unfolding turn
-stop-turned b s closing x = alone closing x.1 x.0 refl x.2
+stop_turned b s closing x = alone closing x.1 x.0 refl x.2
 
 module _ (b : Book) (s : Session) {sc tx : List ℕ} (d : Desk sc tx) {a : Answer} {l : Session} {t1 e1 sc1 t2 : List ℕ} {r : Turn} where
-  pub move-turned : (node : ℕ) (closing : List ℕ) → Returned (called b s (move_to (lent sc tx []) node)) (record { answer = a; session = l }) t1 e1 sc1
+  pub move_turned : (node : ℕ) (closing : List ℕ) → Returned (called b s (move_to (lent sc tx []) node)) (record { answer = a; session = l }) t1 e1 sc1
       → Tells (answer_value a) r.written t1 t2 × (r.closed ≡ 0) × (r.more ≡ true) → Turned (turn b s (moving node)) r l t2 closing
   unfolding turn
-  move-turned node closing q x =
-      let y = did b s (move_to (lent sc tx []) node) (same_move b s (lent sc tx []) desk (on-desk sc tx d.scratch-length d.text-length) node) q x.0 in
+  move_turned node closing q x =
+      let y = did b s (move_to (lent sc tx []) node) (same_move b s (lent sc tx []) desk (on_desk sc tx d.scratch_length d.text-length) node) q x.0 in
       alone closing x.1 y.shows y.session x.2
 
-  pub reply-closes : (n : ℕ) → Returned (called b s (reply_with (lent sc tx []) true (ascii "unsat"))) (record { answer = a; session = l }) t1 e1 sc1
+  pub reply_closes : (n : ℕ) → Returned (called b s (reply_with (lent sc tx []) true (ascii "unsat"))) (record { answer = a; session = l }) t1 e1 sc1
       → Tells (answer_value a) r.closed t1 t2 × (r.written ≡ n) × (r.more ≡ true) → Closes b s n r l t2
   unfolding reply
-  reply-closes n q x =
-      let e = same-reply b s (lent sc tx []) desk (on-desk sc tx d.scratch-length d.text-length) true (ascii "unsat") in
+  reply_closes n q x =
+      let e = same_reply b s (lent sc tx []) desk (on_desk sc tx d.scratch_length d.text-length) true (ascii "unsat") in
       let y = did b s (reply_with (lent sc tx []) true (ascii "unsat")) e q x.0 in
       record { written = x.1; closes = y.shows; session = y.session; more = x.2 }
 
 -- ---- an ask, and the reply to it
-refused-turned : (b : Book) (s : Session) (o : Outcome Written) {v : Outcome Values} {l : Session} {n : ℕ} {t : List ℕ} {r : Turn} (closing : List ℕ) → Did o s v l n t → is_refused v ≡ true
+refused_turned : (b : Book) (s : Session) (o : Outcome Written) {v : Outcome Values} {l : Session} {n : ℕ} {t : List ℕ} {r : Turn} (closing : List ℕ) → Did o s v l n t → is_refused v ≡ true
     → (r.written ≡ n) × (r.closed ≡ 0) × (r.more ≡ true) → Turned (answered b s o) r l t closing
 unfolding answered told session_after is_refused map_outcome
-refused-turned b s (refused k) closing y e x = alone closing x.1 (shows-at x.0 y.shows) y.session x.2
-refused-turned b s (accepted w) closing y e x = absurd (true≢false (sym e ∙ ap is_refused y.answer))
+refused_turned b s (refused k) closing y e x = alone closing x.1 (shows_at x.0 y.shows) y.session x.2
+refused_turned b s (accepted w) closing y e x = absurd (true≢false (sym e ∙ ap is_refused y.answer))
 
-accepted-turned : (b : Book) (s : Session) (o : Outcome Written) {v : Outcome Values} {l l2 : Session} {n : ℕ} {t c : List ℕ} {r : Turn} → Did o s v l n t → is_refused v ≡ false
+accepted_turned : (b : Book) (s : Session) (o : Outcome Written) {v : Outcome Values} {l l2 : Session} {n : ℕ} {t c : List ℕ} {r : Turn} → Did o s v l n t → is_refused v ≡ false
     → Closes b l n r l2 c → Turned (answered b s o) r l2 t c
 unfolding answered told session_after is_refused map_outcome
-accepted-turned b s (refused k) y e z = absurd (true≢false (ap is_refused (sym y.answer) ∙ e))
-accepted-turned b s (accepted w) {l2 = l2} {n = n} {c = c} {r = r} y e z =
+accepted_turned b s (refused k) y e z = absurd (true≢false (ap is_refused (sym y.answer) ∙ e))
+accepted_turned b s (accepted w) {l2 = l2} {n = n} {c = c} {r = r} y e z =
     let x : Closes b w.session n r l2 c = rw y.session at z in
-    let f : Shows (text_of w) r.written _ = shows-at x.written y.shows in
+    let f : Shows (text_of w) r.written _ = shows_at x.written y.shows in
     record {
       printed = rw (f.shown, x.closes.shown);
-      text-fits = f.fits;
-      closing-fits = x.closes.fits;
+      text_fits = f.fits;
+      closing_fits = x.closes.fits;
       session = x.session;
       more = x.more;
     }
@@ -122,12 +122,12 @@ module _ (b : Book) (s : Session) (node term : ℕ) {sc tx : List ℕ} (d : Desk
     (q : Returned (called b s (ask_for (lent sc tx []) node term)) (record { answer = a; session = l }) t1 e1 sc1)
     (x : Tells (answer_value a) k.written t1 t2 × (k.refused ≡ is_refused (answer_value a))) where
   asked : Did (call b s (ask_for desk node term)) s (answer_value a) l k.written t2
-  asked = did b s (ask_for (lent sc tx []) node term) (same-ask b s (lent sc tx []) desk (on-desk sc tx d.scratch-length d.text-length) node term) q x.0
+  asked = did b s (ask_for (lent sc tx []) node term) (same_ask b s (lent sc tx []) desk (on_desk sc tx d.scratch_length d.text-length) node term) q x.0
 
-  pub ask-refused : (closing : List ℕ) {r : Turn} → k.refused ≡ true → (r.written ≡ k.written) × (r.closed ≡ 0) × (r.more ≡ true) → Turned (turn b s (asking node term)) r l t2 closing
+  pub ask_refused : (closing : List ℕ) {r : Turn} → k.refused ≡ true → (r.written ≡ k.written) × (r.closed ≡ 0) × (r.more ≡ true) → Turned (turn b s (asking node term)) r l t2 closing
   unfolding turn
-  ask-refused closing e y = refused-turned b s (call b s (ask_for desk node term)) closing asked (sym x.1 ∙ e) y
+  ask_refused closing e y = refused_turned b s (call b s (ask_for desk node term)) closing asked (sym x.1 ∙ e) y
 
-  pub ask-replied : {l2 : Session} {c2 : List ℕ} {r : Turn} → k.refused ≡ false → Closes b l k.written r l2 c2 → Turned (turn b s (asking node term)) r l2 t2 c2
+  pub ask_replied : {l2 : Session} {c2 : List ℕ} {r : Turn} → k.refused ≡ false → Closes b l k.written r l2 c2 → Turned (turn b s (asking node term)) r l2 t2 c2
   unfolding turn
-  ask-replied e z = accepted-turned b s (call b s (ask_for desk node term)) asked (sym x.1 ∙ e) z
+  ask_replied e z = accepted_turned b s (call b s (ask_for desk node term)) asked (sym x.1 ∙ e) z

@@ -17,7 +17,7 @@ wants w = if w.stops then stopping else if w.asks then asking w.node w.term else
 
 -- the buffers of the program
 pub record Desk (scratch text : List ℕ) : Type 0 where
-  pub scratch-length : length scratch ≡ scratch_least
+  pub scratch_length : length scratch ≡ scratch_least
   pub text-length : length text ≡ text_size
 
 -- the first n bytes of the buffer are the text
@@ -37,8 +37,8 @@ is_refused (accepted v) = false
 -- r is the turn, and s the session after it
 pub record Turned (p : Printed) (r : Turn) (s : Session) (text closing : List ℕ) : Type 0 where
   pub printed : take r.written text ++ take r.closed closing ≡ p.text
-  pub text-fits : r.written ≤ length text
-  pub closing-fits : r.closed ≤ length closing
+  pub text_fits : r.written ≤ length text
+  pub closing_fits : r.closed ≤ length closing
   pub session : s ≡ p.session
   pub more : r.more ≡ p.more
 

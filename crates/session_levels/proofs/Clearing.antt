@@ -19,9 +19,9 @@ use Rattle.rsolver.proofs.Levels.{Within}
 unfoldable pub cleared : (n i : ℕ) → List ℕ → List ℕ
 cleared n i l = forget n (take i l) ++ drop i l
 
-pub cleared-start : (n : ℕ) (l : List ℕ) → l ≡ cleared n 0 l
+pub cleared_start : (n : ℕ) (l : List ℕ) → l ≡ cleared n 0 l
 unfolding cleared forget
-cleared-start n l = refl
+cleared_start n l = refl
 
 cleared_at : (n i : ℕ) (l : List ℕ) → i < length l → get_or (cleared n i l) i 0 ≡ get_or l i 0
 unfolding cleared forget
@@ -29,36 +29,36 @@ cleared_at n i [] h = absurd (omega arith)
 cleared_at n zero (x ∷ l) h = refl
 cleared_at n (suc i) (x ∷ l) h = cleared_at n i l (omega arith)
 
-cleared-next : (n i : ℕ) (l : List ℕ) → i < length l → set (cleared n i l) i (if leb n (get_or l i 0) then 0 else get_or l i 0) ≡ cleared n (suc i) l
+cleared_next : (n i : ℕ) (l : List ℕ) → i < length l → set (cleared n i l) i (if leb n (get_or l i 0) then 0 else get_or l i 0) ≡ cleared n (suc i) l
 unfolding cleared forget
-cleared-next n i [] h = absurd (omega arith)
-cleared-next n zero (x ∷ l) h = refl
-cleared-next n (suc i) (x ∷ l) h = ap {B = List ℕ} (λ r. (if leb n x then 0 else x) ∷ r) (cleared-next n i l (omega arith))
+cleared_next n i [] h = absurd (omega arith)
+cleared_next n zero (x ∷ l) h = refl
+cleared_next n (suc i) (x ∷ l) h = ap {B = List ℕ} (λ r. (if leb n x then 0 else x) ∷ r) (cleared_next n i l (omega arith))
 
 -- a turn of the loop, whose call gives r
 pub cleared_more : (n i : ℕ) (l : List ℕ) {m : List ℕ} {r : ℕ} → m ≡ cleared n i l → i < length l
     → r ≡ (if leb n (get_or m i 0) then 0 else get_or m i 0) → set m i r ≡ cleared n (i + 1) l
-cleared_more n i l e h k = rw (k, e, cleared_at n i l h, add-one i) (cleared-next n i l h)
+cleared_more n i l e h k = rw (k, e, cleared_at n i l h, add-one i) (cleared_next n i l h)
 
-pub cleared-all : (n i : ℕ) (l : List ℕ) {m : List ℕ} → m ≡ cleared n i l → length l ≤ i → m ≡ forget n l
+pub cleared_all : (n i : ℕ) (l : List ℕ) {m : List ℕ} → m ≡ cleared n i l → length l ≤ i → m ≡ forget n l
 unfolding cleared
-cleared-all n i l e h = e ∙ rw (take_all i l h, drop_of_length-le l {i = i} h) (append-nil (forget n l))
+cleared_all n i l e h = e ∙ rw (take_all i l h, drop_of_length-le l {i = i} h) (append-nil (forget n l))
 
 -- nothing is declared at or above a level above all
-pub forget-within : {k : ℕ} {l : List ℕ} → Within k l → forget (suc k) l ≡ l
+pub forget_within : {k : ℕ} {l : List ℕ} → Within k l → forget (suc k) l ≡ l
 unfolding forget
-forget-within end = refl
-forget-within {k} (more {a = a} h w) = rw (lt-leb (suc k) a (omega arith), forget-within w)
+forget_within end = refl
+forget_within {k} (more {a = a} h w) = rw (lt-leb (suc k) a (omega arith), forget_within w)
 
 zeros : (x : Bool) → ◌≡◌ {A = ℕ} (if x then 0 else 0) 0
 zeros true = refl
 zeros false = refl
 
 -- leaving the higher level first changes nothing
-pub forget-forget : (n m : ℕ) → n ≤ m → (l : List ℕ) → forget n (forget m l) ≡ forget n l
+pub forget_forget : (n m : ℕ) → n ≤ m → (l : List ℕ) → forget n (forget m l) ≡ forget n l
 unfolding forget
-forget-forget n m h [] = refl
-forget-forget n m h (a ∷ l) = rw (forget-forget n m h l) (ap {B = List ℕ} (λ x. x ∷ forget n l) (one (dec_le m a)))
+forget_forget n m h [] = refl
+forget_forget n m h (a ∷ l) = rw (forget_forget n m h l) (ap {B = List ℕ} (λ x. x ∷ forget n l) (one (dec_le m a)))
   where
     one : Dec (m ≤ a) → (if leb n (if leb m a then 0 else a) then 0 else (if leb m a then 0 else a)) ≡ (if leb n a then 0 else a)
     one (yes g) = rw (le-leb m a g, le-leb n a (omega arith)) (zeros (leb n 0))

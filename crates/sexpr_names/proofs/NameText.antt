@@ -9,7 +9,7 @@ use Rattle.basics.specs.Basics.{int2_string_no_leading_zero, nat2_string}
 use Rattle.basics.specs.Write.{Wrote}
 use Rattle.basics.proofs.Laws.{wrote_as}
 use Rattle.symbols.specs.Symbols.{symbol_text}
-use Rattle.symbols.proofs.Kept.{symbol-some}
+use Rattle.symbols.proofs.Kept.{symbol_some}
 use Rattle.book.specs.Book.{Book, names, types, terms, field, name_text}
 use Rattle.book.specs.Decode.{type_of, literal_of}
 use Rattle.solver_expr.specs.SolverExpr.{name_to_string, type_to_string}
@@ -32,109 +32,109 @@ unfolding name_to_string
 empty [] h = refl
 empty (x ∷ t) h = absurd (omega arith)
 
-pub name-none : {s u : Text} → s ≡ u → length s ≡ 0 → ascii "()" ≡ name_to_string u
-name-none {s} {u} e h = empty u (sym (ap length e) ∙ h)
+pub name_none : {s u : Text} → s ≡ u → length s ≡ 0 → ascii "()" ≡ name_to_string u
+name_none {s} {u} e h = empty u (sym (ap length e) ∙ h)
 
-pub name-some : {s u : Text} → s ≡ u → (length s ≡ 0 → ⊥) → s ≡ name_to_string u
-name-some {s} e h = rw (← e) (shown s (omega arith))
+pub name_some : {s u : Text} → s ≡ u → (length s ≡ 0 → ⊥) → s ≡ name_to_string u
+name_some {s} e h = rw (← e) (shown s (omega arith))
 
 -- Types inside literals.
 
 module _ (b : Book) where
-  pub type-bool : {k : ℕ} → k ≡ 0 → ascii "bool" ≡ type_to_string (type_of b k)
+  pub type_bool : {k : ℕ} → k ≡ 0 → ascii "bool" ≡ type_to_string (type_of b k)
   unfolding type_of type_to_string
-  type-bool e = rw e
+  type_bool e = rw e
 
   pub type-int : {k : ℕ} → k ≡ 1 → ascii "int" ≡ type_to_string (type_of b k)
   unfolding type_of type_to_string
   type-int e = rw e
 
-  pub user-ready : (k : ℕ) {x : ℕ} → ReadyType b k → (k ≡ 0 → ⊥) → (k ≡ 1 → ⊥) → x ≡ field b types (k - 2) 0 → Ready b names x
-  user-ready zero r n m e = absurd (n refl)
-  user-ready (suc zero) r n m e = absurd (m refl)
-  user-ready (suc (suc k)) r n m e =
+  pub user_ready : (k : ℕ) {x : ℕ} → ReadyType b k → (k ≡ 0 → ⊥) → (k ≡ 1 → ⊥) → x ≡ field b types (k - 2) 0 → Ready b names x
+  user_ready zero r n m e = absurd (n refl)
+  user_ready (suc zero) r n m e = absurd (m refl)
+  user_ready (suc (suc k)) r n m e =
       let j : suc (suc k) - 2 ≡ k = omega arith in
-      record { promise = r.promise; here = rw (e, j) (r.promise.type-name k (omega (arith, r.here))) }
+      record { promise = r.promise; here = rw (e, j) (r.promise.type_name k (omega (arith, r.here))) }
 
-  pub type-user : (k : ℕ) {x : ℕ} {s : Text} → (k ≡ 0 → ⊥) → (k ≡ 1 → ⊥) → x ≡ field b types (k - 2) 0 → s ≡ name_text b x → s ≡ type_to_string (type_of b k)
+  pub type_user : (k : ℕ) {x : ℕ} {s : Text} → (k ≡ 0 → ⊥) → (k ≡ 1 → ⊥) → x ≡ field b types (k - 2) 0 → s ≡ name_text b x → s ≡ type_to_string (type_of b k)
   unfolding type_of type_to_string
-  type-user zero n m e h = absurd (n refl)
-  type-user (suc zero) n m e h = absurd (m refl)
-  type-user (suc (suc k)) n m e h =
+  type_user zero n m e h = absurd (n refl)
+  type_user (suc zero) n m e h = absurd (m refl)
+  type_user (suc (suc k)) n m e h =
       let j : suc (suc k) - 2 ≡ k = omega arith in
       h ∙ rw (e, j)
 
   -- |s:type|
-  pub literal-text : (t : ℕ) {n k : ℕ} → n ≡ field b terms t 1 → k ≡ field b terms t 2
+  pub literal_text : (t : ℕ) {n k : ℕ} → n ≡ field b terms t 1 → k ≡ field b terms t 2
       → (ascii "|" ++ name_text b n) ++ (ascii ":" ++ type_to_string (type_of b k) ++ ascii "|") ≡ literal_name (literal_of b t)
   unfolding literal_name literal_of
-  literal-text t en ek = rw (en, ek) (simp append_assoc)
+  literal_text t en ek = rw (en, ek) (simp append_assoc)
 
   pub literal-name : (t : ℕ) {n : ℕ} → ReadyLiteral b t → n ≡ field b terms t 1 → Ready b names n
   literal-name t r e = record { promise = r.promise; here = rw e r.here.good.name }
 
-  pub literal-type : (t : ℕ) {k : ℕ} → ReadyLiteral b t → k ≡ field b terms t 2 → ReadyType b k
-  literal-type t r e = record { promise = r.promise; here = rw e r.here.good.typ }
+  pub literal_type : (t : ℕ) {k : ℕ} → ReadyLiteral b t → k ≡ field b terms t 2 → ReadyType b k
+  literal_type t r e = record { promise = r.promise; here = rw e r.here.good.typ }
 
 -- Words, symbols, numbers and literals are not empty.
 
-pub word-as : {w v : Word} {o o1 : List ℕ} {r : ℕ} → w ≡ v → Wrote (word_text v) o o1 r → Wrote (word_text w) o o1 r
-word-as e h = rw e h
+pub word_as : {w v : Word} {o o1 : List ℕ} {r : ℕ} → w ≡ v → Wrote (word_text v) o o1 r → Wrote (word_text w) o o1 r
+word_as e h = rw e h
 
-word-shown : (w : Word) → word_text w ≡ name_to_string (word_text w)
+word_shown : (w : Word) → word_text w ≡ name_to_string (word_text w)
 unfolding word_text name_to_string
-word-shown word.False = refl
-word-shown word.True = refl
-word-shown word.Not = refl
-word-shown word.Minus = refl
-word-shown word.Ite = refl
-word-shown word.Let = refl
-word-shown word.Forall = refl
-word-shown word.Exists = refl
-word-shown word.Bang = refl
-word-shown word.Pattern = refl
-word-shown word.Bool = refl
-word-shown word.Int = refl
+word_shown word.False = refl
+word_shown word.True = refl
+word_shown word.Not = refl
+word_shown word.Minus = refl
+word_shown word.Ite = refl
+word_shown word.Let = refl
+word_shown word.Forall = refl
+word_shown word.Exists = refl
+word_shown word.Bang = refl
+word_shown word.Pattern = refl
+word_shown word.Bool = refl
+word_shown word.Int = refl
 
-nat-some : (n : ℕ) → 0 < length (nat2_string n)
+nat_some : (n : ℕ) → 0 < length (nat2_string n)
 unfolding nat2_string int2_string_no_leading_zero
-nat-some zero = omega arith
-nat-some (suc n) = omega (arith, length-append (int2_string_no_leading_zero n (suc n / 10)) ((48 + suc n % 10) ∷ []))
+nat_some zero = omega arith
+nat_some (suc n) = omega (arith, length-append (int2_string_no_leading_zero n (suc n / 10)) ((48 + suc n % 10) ∷ []))
 
 module _ (b : Book) (tag : ℕ) {n : SName} {o o1 : List ℕ} {r : ℕ} where
-  pub wrote-word : {w : Word} → n ≡ name.Word w → Wrote (word_text w) o o1 r → Wrote (name_to_string (text_of b tag n)) o o1 r
+  pub wrote_word : {w : Word} → n ≡ name.Word w → Wrote (word_text w) o o1 r → Wrote (name_to_string (text_of b tag n)) o o1 r
   unfolding text_of
-  wrote-word {w} e h = rw e (wrote_as (word-shown w) h)
+  wrote_word {w} e h = rw e (wrote_as (word_shown w) h)
 
-  pub wrote-operator : {k : ℕ} → n ≡ name.Operator k → Wrote (name_to_string (name_text b k)) o o1 r → Wrote (name_to_string (text_of b tag n)) o o1 r
+  pub wrote_operator : {k : ℕ} → n ≡ name.Operator k → Wrote (name_to_string (name_text b k)) o o1 r → Wrote (name_to_string (text_of b tag n)) o o1 r
   unfolding text_of
-  wrote-operator e h = rw e h
+  wrote_operator e h = rw e h
 
-  pub wrote-symbol : {k : ℕ} → n ≡ name.Symbol k → Wrote (symbol_text (name_text b k)) o o1 r → Wrote (name_to_string (text_of b tag n)) o o1 r
+  pub wrote_symbol : {k : ℕ} → n ≡ name.Symbol k → Wrote (symbol_text (name_text b k)) o o1 r → Wrote (name_to_string (text_of b tag n)) o o1 r
   unfolding text_of
-  wrote-symbol {k} e h = rw e (wrote_as (shown (symbol_text (name_text b k)) (symbol-some (name_text b k))) h)
+  wrote_symbol {k} e h = rw e (wrote_as (shown (symbol_text (name_text b k)) (symbol_some (name_text b k))) h)
 
-  pub wrote-numeral : {x : ℕ} → n ≡ name.Numeral x → Wrote (nat2_string x) o o1 r → Wrote (name_to_string (text_of b tag n)) o o1 r
+  pub wrote_numeral : {x : ℕ} → n ≡ name.Numeral x → Wrote (nat2_string x) o o1 r → Wrote (name_to_string (text_of b tag n)) o o1 r
   unfolding text_of
-  wrote-numeral {x} e h = rw e (wrote_as (shown (nat2_string x) (nat-some x)) h)
+  wrote_numeral {x} e h = rw e (wrote_as (shown (nat2_string x) (nat_some x)) h)
 
-  pub wrote-literal : {t : ℕ} → n ≡ name.Literal t → Wrote (literal_name (literal_of b t)) o o1 r → Wrote (name_to_string (text_of b tag n)) o o1 r
+  pub wrote_literal : {t : ℕ} → n ≡ name.Literal t → Wrote (literal_name (literal_of b t)) o o1 r → Wrote (name_to_string (text_of b tag n)) o o1 r
   unfolding text_of literal_name name_to_string
-  wrote-literal e h = rw e h
+  wrote_literal e h = rw e h
 
-  pub wrote-tag : n ≡ name.Tag → Wrote (nat2_string tag) o o1 r → Wrote (name_to_string (text_of b tag n)) o o1 r
+  pub wrote_tag : n ≡ name.Tag → Wrote (nat2_string tag) o o1 r → Wrote (name_to_string (text_of b tag n)) o o1 r
   unfolding text_of
-  wrote-tag e h = rw e (wrote_as (shown (nat2_string tag) (nat-some tag)) h)
+  wrote_tag e h = rw e (wrote_as (shown (nat2_string tag) (nat_some tag)) h)
 
 module _ {b : Book} {n : SName} where
-  pub ready-operator : {k : ℕ} → n ≡ name.Operator k → ReadyName b n → Ready b names k
+  pub ready_operator : {k : ℕ} → n ≡ name.Operator k → ReadyName b n → Ready b names k
   unfolding FineName
-  ready-operator e r = record { promise = r.promise; here = subst (FineName b) e r.fine }
+  ready_operator e r = record { promise = r.promise; here = subst (FineName b) e r.fine }
 
-  pub ready-symbol : {k : ℕ} → n ≡ name.Symbol k → ReadyName b n → Ready b names k
+  pub ready_symbol : {k : ℕ} → n ≡ name.Symbol k → ReadyName b n → Ready b names k
   unfolding FineName
-  ready-symbol e r = record { promise = r.promise; here = subst (FineName b) e r.fine }
+  ready_symbol e r = record { promise = r.promise; here = subst (FineName b) e r.fine }
 
-  pub ready-literal : {t : ℕ} → n ≡ name.Literal t → ReadyName b n → ReadyLiteral b t
+  pub ready_literal : {t : ℕ} → n ≡ name.Literal t → ReadyName b n → ReadyLiteral b t
   unfolding FineName
-  ready-literal e r = record { promise = r.promise; here = subst (FineName b) e r.fine }
+  ready_literal e r = record { promise = r.promise; here = subst (FineName b) e r.fine }

@@ -19,21 +19,21 @@ use Rattle.sexpr_rows.specs.declared.Part.{Part}
 use Rattle.sexpr_rows.specs.declared.Part.TheVariants as part
 use Rattle.sexpr_rows.specs.declared.Turn.{Turn}
 use Rattle.sexpr_rows.specs.declared.Turn.TheVariants as turn
-use Rattle.sexpr_rows.proofs.Lists.{drop_at, drop-end, row-length}
+use Rattle.sexpr_rows.proofs.Lists.{drop_at, drop_end, row-length}
 
 -- the row, as a match tells it
 module _ (b : Book) {p q : SRow} (e : p ≡ q) where
-  pub place-as : {i : ℕ} → ReadyPlace b p i → ReadyPlace b q i
-  place-as {i} r = subst (λ (x : SRow). ReadyPlace b x i) e r
+  pub place_as : {i : ℕ} → ReadyPlace b p i → ReadyPlace b q i
+  place_as {i} r = subst (λ (x : SRow). ReadyPlace b x i) e r
 
   pub row_as : ReadyRow b p → ReadyRow b q
   row_as r = subst (ReadyRow b) e r
 
-  pub element-as : {i : ℕ} {a : Part} → Element b q i a → Element b p i a
-  element-as {i} {a} h = subst (λ (x : SRow). Element b x i a) (sym e) h
+  pub element_as : {i : ℕ} {a : Part} → Element b q i a → Element b p i a
+  element_as {i} {a} h = subst (λ (x : SRow). Element b x i a) (sym e) h
 
-  pub length-as : {n : ℕ} → n ≡ row_length b q → n ≡ row_length b p
-  length-as h = rw e h
+  pub length_as : {n : ℕ} → n ≡ row_length b q → n ≡ row_length b p
+  length_as h = rw e h
 
 -- the value e is part i of the row p
 pub record Stands (b : Book) (p : SRow) (i : ℕ) (e : code.SExpr) : Type 0 where
@@ -41,40 +41,40 @@ pub record Stands (b : Book) (p : SRow) (i : ℕ) (e : code.SExpr) : Type 0 wher
   pub is : (tag : ℕ) → meaning b tag e ≡ atˢ (row_of b tag p) i
 
 module _ {b : Book} {p : SRow} {i : ℕ} {a : Part} (el : Element b p i a) where
-  pub known-stands : {e : code.SExpr} → a ≡ part.Known e → Stands b p i e
+  pub known_stands : {e : code.SExpr} → a ≡ part.Known e → Stands b p i e
   unfolding part_of FinePart
-  known-stands h = record { fine = subst (FinePart b) h el.fine; is = λ tag. ap (part_of b tag) (sym h) ∙ el.is tag }
+  known_stands h = record { fine = subst (FinePart b) h el.fine; is = λ tag. ap (part_of b tag) (sym h) ∙ el.is tag }
 
-  pub term-ready : {t : ℕ} → ReadyRow b p → a ≡ part.Term t → Ready b terms t
+  pub term_ready : {t : ℕ} → ReadyRow b p → a ≡ part.Term t → Ready b terms t
   unfolding FinePart
-  term-ready r h = record { promise = r.promise; here = subst (FinePart b) h el.fine }
+  term_ready r h = record { promise = r.promise; here = subst (FinePart b) h el.fine }
 
-  pub term-stands : {t : ℕ} {e : code.SExpr} → a ≡ part.Term t → Lowered b t e → Stands b p i e
+  pub term_stands : {t : ℕ} {e : code.SExpr} → a ≡ part.Term t → Lowered b t e → Stands b p i e
   unfolding part_of
-  term-stands h l = record { fine = l.fine; is = λ tag. l.is tag ∙ ap (part_of b tag) (sym h) ∙ el.is tag }
+  term_stands h l = record { fine = l.fine; is = λ tag. l.is tag ∙ ap (part_of b tag) (sym h) ∙ el.is tag }
 
-pub place-ready : {b : Book} {p : SRow} {i n : ℕ} → ReadyRow b p → n ≡ row_length b p → i < n → ReadyPlace b p i
-place-ready r e h = record { promise = r.promise; fine = r.fine; within = omega arith }
+pub place_ready : {b : Book} {p : SRow} {i n : ℕ} → ReadyRow b p → n ≡ row_length b p → i < n → ReadyPlace b p i
+place_ready r e h = record { promise = r.promise; fine = r.fine; within = omega arith }
 
 -- the turn of a part, as the code finds it
 module _ {e : code.SExpr} (more : Bool) where
-  pub for-name : {m : SName} → e ≡ value.S m → turn.Name m ≡ turn_for e more
+  pub for_name : {m : SName} → e ≡ value.S m → turn.Name m ≡ turn_for e more
   unfolding turn_for
-  for-name h = rw h
+  for_name h = rw h
 
-  pub for-row : {q : SRow} → e ≡ value.PP q → more ≡ true → turn.Row q ≡ turn_for e more
+  pub for_row : {q : SRow} → e ≡ value.PP q → more ≡ true → turn.Row q ≡ turn_for e more
   unfolding turn_for
-  for-row h k = rw (h, k)
+  for_row h k = rw (h, k)
 
-  pub for-last : {q : SRow} → e ≡ value.PP q → more ≡ false → turn.Last q ≡ turn_for e more
+  pub for_last : {q : SRow} → e ≡ value.PP q → more ≡ false → turn.Last q ≡ turn_for e more
   unfolding turn_for
-  for-last h k = rw (h, k)
+  for_last h k = rw (h, k)
 
 -- turns
 module _ (b : Book) (p : SRow) (i : ℕ) {n : ℕ} (len : n ≡ row_length b p) where
   pub turn_end : n ≤ i → Turned b p i turn.End
   unfolding Turned
-  turn_end h = record { is = λ tag. drop-end (row_of b tag p) i (omega (arith, row-length b tag p)) }
+  turn_end h = record { is = λ tag. drop_end (row_of b tag p) i (omega (arith, row-length b tag p)) }
 
   module _ {e : code.SExpr} (within : i < n) (st : Stands b p i e) where
     here : (tag : ℕ) → dropˢ i (row_of b tag p) ≡ meaning b tag e ∷ˢ dropˢ (suc i) (row_of b tag p)
@@ -89,7 +89,7 @@ module _ (b : Book) (p : SRow) (i : ℕ) {n : ℕ} (len : n ≡ row_length b p) 
       let l : n ≤ i + 1 = ltb-false (i + 1) n (sym h) in
       record {
         fine = st.fine;
-        is = λ tag. rw (← drop-end (row_of b tag p) (suc i) (omega (arith, row-length b tag p))) (here within st tag);
+        is = λ tag. rw (← drop_end (row_of b tag p) (suc i) (omega (arith, row-length b tag p))) (here within st tag);
       }
 
   pub turned : {e : code.SExpr} {more : Bool} {r : Turn} → i < n → n < MOST + 1 → more ≡ ltb (i + 1) n → Stands b p i e → r ≡ turn_for e more → Turned b p i r

@@ -7,12 +7,12 @@ use Rattle.basics.specs.Text.{Text, ascii, same}
 use Rattle.symbols.specs.Symbols.{symbol_text}
 use Rattle.basics.proofs.Texts.{same_refl}
 use Rattle.basics.proofs.All.{All, end}
-use Rattle.basics.proofs.Clean.{Clean, clean-append}
+use Rattle.basics.proofs.Clean.{Clean, clean_append}
 use Rattle.book.specs.SType.{SType, STypeDecl, SConstant}
 use Rattle.book.specs.RExpr.{RExpr, Function, Literal}
 use Rattle.solver_expr.specs.SolverExpr.{SExpr, to_string, flat, type_to_sexpr, types_to_sexpr}
 use Rattle.solver_expr.specs.Lowering.{to_sexpr, literal_name}
-use Rattle.solver_expr.proofs.Clean.{CleanS, printed, symbol-clean, CleanType, CleanConstant, CleanFunction, CleanLiteral, CleanR, type-clean, types-clean, literal-clean, expr-clean, negation-clean}
+use Rattle.solver_expr.proofs.Clean.{CleanS, printed, symbol_clean, CleanType, CleanConstant, CleanFunction, CleanLiteral, CleanR, type_clean, types_clean, literal_clean, expr_clean, negation_clean}
 use Rattle.smt_engines.specs.SmtEngines.{CMD_PUSH, CMD_POP, CMD_CHECK_SAT, CMD_GET_MODEL, Context, Assumption, Declaration, SortDeclaration, context_to_string}
 use Rattle.smt_engines.specs.Command.{Command, Push, Pop, CheckSat, GetModel, Assume, AssumeNot, DeclareSort, DeclareConstant, DeclareFunction, DeclareLiteral, assumption, declaration, command_to_string}
 use Rattle.smt_engines.specs.Reader.{kind, joins}
@@ -26,67 +26,67 @@ pub record NoStackCommand (c : Context) : Type 0 where
   pub push : ¬ (context_to_string c ≡ CMD_PUSH)
   pub pop : ¬ (context_to_string c ≡ CMD_POP)
 
-pub context-ensures : (c : Context) → NoStackCommand c
+pub context_ensures : (c : Context) → NoStackCommand c
 unfolding context_to_string same CMD_PUSH CMD_POP
-context-ensures (Assumption t) = record { exit = differs _ _ refl; push = differs _ _ refl; pop = differs _ _ refl }
-context-ensures (Declaration n i o) = record { exit = differs _ _ refl; push = differs _ _ refl; pop = differs _ _ refl }
-context-ensures (SortDeclaration n) = record { exit = differs _ _ refl; push = differs _ _ refl; pop = differs _ _ refl }
+context_ensures (Assumption t) = record { exit = differs _ _ refl; push = differs _ _ refl; pop = differs _ _ refl }
+context_ensures (Declaration n i o) = record { exit = differs _ _ refl; push = differs _ _ refl; pop = differs _ _ refl }
+context_ensures (SortDeclaration n) = record { exit = differs _ _ refl; push = differs _ _ refl; pop = differs _ _ refl }
 
 -- ---- a command whose text is one line, and none of the four that move or ask
 pub record Plain (c : Command) : Type 0 where
   pub one : Clean (command_to_string c)
   pub joins : kind (command_to_string c) ≡ joins
 
-assumption-clean : (e : SExpr) → CleanS e → Clean (context_to_string (assumption e))
+assumption_clean : (e : SExpr) → CleanS e → Clean (context_to_string (assumption e))
 unfolding context_to_string assumption
-assumption-clean e h = clean-append (to_string e flat) (ascii ")") (printed e h) refl
+assumption_clean e h = clean_append (to_string e flat) (ascii ")") (printed e h) refl
 
-assumption-joins : (e : SExpr) → kind (context_to_string (assumption e)) ≡ joins
+assumption_joins : (e : SExpr) → kind (context_to_string (assumption e)) ≡ joins
 unfolding context_to_string assumption kind same
-assumption-joins e = refl
+assumption_joins e = refl
 
-declaration-clean : (n : Text) (ts : List SType) (t : SType) → Clean n → All CleanType ts → CleanType t → Clean (context_to_string (declaration n ts t))
+declaration_clean : (n : Text) (ts : List SType) (t : SType) → Clean n → All CleanType ts → CleanType t → Clean (context_to_string (declaration n ts t))
 unfolding context_to_string declaration
-declaration-clean n ts t h hs k =
+declaration_clean n ts t h hs k =
     let i = to_string (types_to_sexpr ts) flat in
     let o = to_string (type_to_sexpr t) flat in
-    let a : Clean (n ++ ascii " ") = clean-append n (ascii " ") h refl in
-    let b : Clean (n ++ ascii " " ++ i) = clean-append (n ++ ascii " ") i a (printed (types_to_sexpr ts) (types-clean hs)) in
-    let c : Clean (n ++ ascii " " ++ i ++ ascii " ") = clean-append (n ++ ascii " " ++ i) (ascii " ") b refl in
-    let d : Clean (n ++ ascii " " ++ i ++ ascii " " ++ o) = clean-append (n ++ ascii " " ++ i ++ ascii " ") o c (printed (type_to_sexpr t) (type-clean t k)) in
-    clean-append (n ++ ascii " " ++ i ++ ascii " " ++ o) (ascii ")") d refl
+    let a : Clean (n ++ ascii " ") = clean_append n (ascii " ") h refl in
+    let b : Clean (n ++ ascii " " ++ i) = clean_append (n ++ ascii " ") i a (printed (types_to_sexpr ts) (types_clean hs)) in
+    let c : Clean (n ++ ascii " " ++ i ++ ascii " ") = clean_append (n ++ ascii " " ++ i) (ascii " ") b refl in
+    let d : Clean (n ++ ascii " " ++ i ++ ascii " " ++ o) = clean_append (n ++ ascii " " ++ i ++ ascii " ") o c (printed (type_to_sexpr t) (type_clean t k)) in
+    clean_append (n ++ ascii " " ++ i ++ ascii " " ++ o) (ascii ")") d refl
 
-declaration-joins : (n : Text) (ts : List SType) (t : SType) → kind (context_to_string (declaration n ts t)) ≡ joins
+declaration_joins : (n : Text) (ts : List SType) (t : SType) → kind (context_to_string (declaration n ts t)) ≡ joins
 unfolding context_to_string declaration kind same
-declaration-joins n ts t = refl
+declaration_joins n ts t = refl
 
-pub plain-assume : (e : RExpr) (tag : ℕ) → CleanR e → Plain (Assume e tag)
+pub plain_assume : (e : RExpr) (tag : ℕ) → CleanR e → Plain (Assume e tag)
 unfolding command_to_string
-plain-assume e tag h = record { one = assumption-clean (to_sexpr e tag) (expr-clean e tag h); joins = assumption-joins _ }
+plain_assume e tag h = record { one = assumption_clean (to_sexpr e tag) (expr_clean e tag h); joins = assumption_joins _ }
 
-pub plain-assume-not : (e : RExpr) (tag : ℕ) → CleanR e → Plain (AssumeNot e tag)
+pub plain_assume_not : (e : RExpr) (tag : ℕ) → CleanR e → Plain (AssumeNot e tag)
 unfolding command_to_string
-plain-assume-not e tag h = record { one = assumption-clean _ (negation-clean (to_sexpr e tag) (expr-clean e tag h)); joins = assumption-joins _ }
+plain_assume_not e tag h = record { one = assumption_clean _ (negation_clean (to_sexpr e tag) (expr_clean e tag h)); joins = assumption_joins _ }
 
-pub plain-sort : (d : STypeDecl) → Clean d.name → Plain (DeclareSort d)
+pub plain_sort : (d : STypeDecl) → Clean d.name → Plain (DeclareSort d)
 unfolding command_to_string context_to_string kind same
-plain-sort d h = record { one = clean-append (symbol_text d.name) (ascii " 0)") (symbol-clean d.name h) refl; joins = refl }
+plain_sort d h = record { one = clean_append (symbol_text d.name) (ascii " 0)") (symbol_clean d.name h) refl; joins = refl }
 
-pub plain-constant : (v : SConstant) → CleanConstant v → Plain (DeclareConstant v)
+pub plain_constant : (v : SConstant) → CleanConstant v → Plain (DeclareConstant v)
 unfolding command_to_string
-plain-constant v h =
+plain_constant v h =
     let n = symbol_text v.name in
-    record { one = declaration-clean n [] v.typ (symbol-clean v.name h.name) end h.typ; joins = declaration-joins n [] v.typ }
+    record { one = declaration_clean n [] v.typ (symbol_clean v.name h.name) end h.typ; joins = declaration_joins n [] v.typ }
 
-pub plain-function : (f : Function) → CleanFunction f → Plain (DeclareFunction f)
+pub plain_function : (f : Function) → CleanFunction f → Plain (DeclareFunction f)
 unfolding command_to_string
-plain-function f h =
+plain_function f h =
     let n = symbol_text f.name in
     record {
-      one = declaration-clean n f.input_types f.typ (symbol-clean f.name h.name) h.input_types h.typ;
-      joins = declaration-joins n f.input_types f.typ;
+      one = declaration_clean n f.input_types f.typ (symbol_clean f.name h.name) h.input_types h.typ;
+      joins = declaration_joins n f.input_types f.typ;
     }
 
-pub plain-literal : (l : Literal) → CleanLiteral l → Plain (DeclareLiteral l)
+pub plain_literal : (l : Literal) → CleanLiteral l → Plain (DeclareLiteral l)
 unfolding command_to_string
-plain-literal l h = record { one = declaration-clean (literal_name l) [] l.typ (literal-clean l h) end h.typ; joins = declaration-joins (literal_name l) [] l.typ }
+plain_literal l h = record { one = declaration_clean (literal_name l) [] l.typ (literal_clean l h) end h.typ; joins = declaration_joins (literal_name l) [] l.typ }

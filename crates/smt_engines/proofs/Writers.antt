@@ -27,84 +27,84 @@ use Rattle.smt_engines.specs.Written.{type_decl_of, type_text, types_text, signa
 end_line : (x e : Text) → x ++ (e ++ (newline ∷ [])) ≡ x ++ e ++ (newline ∷ []) ++ []
 end_line x e = sym (append-nil _ ∙ append_assoc x e (newline ∷ []))
 
-no-inputs : (x : Text) → x ++ ascii " () " ≡ x ++ ascii " " ++ ascii "()" ++ ascii " "
-no-inputs x = sym (append_assoc (x ++ ascii " ") (ascii "()") (ascii " ") ∙ append_assoc x (ascii " ") (ascii "()" ++ ascii " "))
+no_inputs : (x : Text) → x ++ ascii " () " ≡ x ++ ascii " " ++ ascii "()" ++ ascii " "
+no_inputs x = sym (append_assoc (x ++ ascii " ") (ascii "()") (ascii " ") ∙ append_assoc x (ascii " ") (ascii "()" ++ ascii " "))
 
 module _ (b : Book) where
   -- ---- parts
-  pub symbol-part : {n m : ℕ} → n ≡ m → symbol_text (name_text b n) ≡ symbol_text (name_text b m)
-  symbol-part e = rw e
+  pub symbol_part : {n m : ℕ} → n ≡ m → symbol_text (name_text b n) ≡ symbol_text (name_text b m)
+  symbol_part e = rw e
 
-  pub name-here : {section k i n : ℕ} → Named b section k i → n ≡ field b (section_at section) k i → Ready b names n
-  name-here r e = record { promise = r.promise; here = rw e r.inside }
+  pub name_here : {section k i n : ℕ} → Named b section k i → n ≡ field b (section_at section) k i → Ready b names n
+  name_here r e = record { promise = r.promise; here = rw e r.inside }
 
-  pub type-part : {typ : ℕ} {e : code.SExpr} (tag : ℕ) → IsType b typ e → expr_text b tag e flat ≡ type_text b typ
+  pub type_part : {typ : ℕ} {e : code.SExpr} (tag : ℕ) → IsType b typ e → expr_text b tag e flat ≡ type_text b typ
   unfolding expr_text type_text
-  type-part tag h = ap {B = Text} (λ (s : SExpr). to_string s flat) (h.is tag)
+  type_part tag h = ap {B = Text} (λ (s : SExpr). to_string s flat) (h.is tag)
 
   pub types-part : (k tag : ℕ) → expr_text b tag (value.PP (row.Types k)) flat ≡ types_text b k
   unfolding expr_text meaning row_of types_text types_to_sexpr
   types-part k tag = refl
 
-  pub term-part : {t : ℕ} {e : code.SExpr} (tag : ℕ) → Lowered b t e → expr_text b tag e flat ≡ to_string (to_sexpr (term b t) tag) flat
+  pub term_part : {t : ℕ} {e : code.SExpr} (tag : ℕ) → Lowered b t e → expr_text b tag e flat ≡ to_string (to_sexpr (term b t) tag) flat
   unfolding expr_text term_of
-  term-part tag h = ap {B = Text} (λ (s : SExpr). to_string s flat) (h.is tag)
+  term_part tag h = ap {B = Text} (λ (s : SExpr). to_string s flat) (h.is tag)
 
-  pub negated-part : {t : ℕ} {e : code.SExpr} (tag : ℕ) → IsNegation t e → expr_text b tag e flat ≡ to_string (negation (to_sexpr (term b t) tag)) flat
+  pub negated_part : {t : ℕ} {e : code.SExpr} (tag : ℕ) → IsNegation t e → expr_text b tag e flat ≡ to_string (negation (to_sexpr (term b t) tag)) flat
   unfolding expr_text term_of
-  negated-part tag h = ap {B = Text} (λ (s : SExpr). to_string s flat) (h.is b tag)
+  negated_part tag h = ap {B = Text} (λ (s : SExpr). to_string s flat) (h.is b tag)
 
   -- one that is written in part of the buffer
-  pub flat-part : (e : code.SExpr) (tag : ℕ) {at k n r : ℕ} {o p : List ℕ} → k ≡ min at (length o)
+  pub flat_part : (e : code.SExpr) (tag : ℕ) {at k n r : ℕ} {o p : List ℕ} → k ≡ min at (length o)
       → WroteIn false 0 (expr_text b tag e) (take (length o - k) (drop k o)) p n → r ≡ min (at + n) MOST → WroteAt (expr_text b tag e flat) at o (joined k o p) r
   unfolding flat
-  flat-part e tag ek w er = at_part ek (w.wrote flat (record { lines = refl; spaces = refl })) er
+  flat_part e tag ek w er = at_part ek (w.wrote flat (record { lines = refl; spaces = refl })) er
 
   -- ---- lines
-  pub sort-line : (k : ℕ) → ascii "(declare-sort " ++ symbol_text (name_text b (field b types k 0)) ++ (0x20 ∷ 0x30 ∷ 0x29 ∷ newline ∷ []) ≡ script (DeclareSort (type_decl_of b k) ∷ [])
+  pub sort_line : (k : ℕ) → ascii "(declare-sort " ++ symbol_text (name_text b (field b types k 0)) ++ (0x20 ∷ 0x30 ∷ 0x29 ∷ newline ∷ []) ≡ script (DeclareSort (type_decl_of b k) ∷ [])
   unfolding script command_to_string context_to_string
-  sort-line k = end_line (ascii "(declare-sort " ++ symbol_text (name_text b (field b types k 0))) (ascii " 0)")
+  sort_line k = end_line (ascii "(declare-sort " ++ symbol_text (name_text b (field b types k 0))) (ascii " 0)")
 
-  pub constant-line : (k : ℕ) → ascii "(declare-fun " ++ symbol_text (name_text b (field b constants k 0)) ++ ascii " () " ++ type_text b (field b constants k 1) ++ (0x29 ∷ newline ∷ []) ≡ script (DeclareConstant (constant_of b k) ∷ [])
+  pub constant_line : (k : ℕ) → ascii "(declare-fun " ++ symbol_text (name_text b (field b constants k 0)) ++ ascii " () " ++ type_text b (field b constants k 1) ++ (0x29 ∷ newline ∷ []) ≡ script (DeclareConstant (constant_of b k) ∷ [])
   unfolding script command_to_string context_to_string declaration types_to_sexpr type_list constant_of type_text to_string list_to_string
-  constant-line k =
-      ap {B = Text} (λ (x : Text). x ++ type_text b (field b constants k 1) ++ (0x29 ∷ newline ∷ [])) (no-inputs (ascii "(declare-fun " ++ symbol_text (name_text b (field b constants k 0))))
+  constant_line k =
+      ap {B = Text} (λ (x : Text). x ++ type_text b (field b constants k 1) ++ (0x29 ∷ newline ∷ [])) (no_inputs (ascii "(declare-fun " ++ symbol_text (name_text b (field b constants k 0))))
       ∙ end_line (ascii "(declare-fun " ++ symbol_text (name_text b (field b constants k 0)) ++ ascii " " ++ ascii "()" ++ ascii " " ++ type_text b (field b constants k 1)) (ascii ")")
 
   pub signature : (k : ℕ) → ascii "(declare-fun " ++ symbol_text (name_text b (field b functions k 0)) ++ ascii " " ++ types_text b k ≡ signature_text b k
   unfolding signature_text function_of
   signature k = refl
 
-  pub function-line : (k : ℕ) → signature_text b k ++ ascii " " ++ type_text b (field b functions k 1) ++ (0x29 ∷ newline ∷ []) ≡ script (DeclareFunction (function_of b k) ∷ [])
+  pub function_line : (k : ℕ) → signature_text b k ++ ascii " " ++ type_text b (field b functions k 1) ++ (0x29 ∷ newline ∷ []) ≡ script (DeclareFunction (function_of b k) ∷ [])
   unfolding script command_to_string context_to_string declaration signature_text types_text function_of type_text
-  function-line k = end_line (signature_text b k ++ ascii " " ++ type_text b (field b functions k 1)) (ascii ")")
+  function_line k = end_line (signature_text b k ++ ascii " " ++ type_text b (field b functions k 1)) (ascii ")")
 
-  pub literal-line : (t : ℕ) → ascii "(declare-fun " ++ literal_name (literal_of b t) ++ ascii " () " ++ type_text b (field b terms t 2) ++ (0x29 ∷ newline ∷ []) ≡ script (DeclareLiteral (literal_of b t) ∷ [])
+  pub literal_line : (t : ℕ) → ascii "(declare-fun " ++ literal_name (literal_of b t) ++ ascii " () " ++ type_text b (field b terms t 2) ++ (0x29 ∷ newline ∷ []) ≡ script (DeclareLiteral (literal_of b t) ∷ [])
   unfolding script command_to_string context_to_string declaration types_to_sexpr type_list literal_of type_text to_string list_to_string
-  literal-line t =
-      ap {B = Text} (λ (x : Text). x ++ type_text b (field b terms t 2) ++ (0x29 ∷ newline ∷ [])) (no-inputs (ascii "(declare-fun " ++ literal_name (literal_of b t)))
+  literal_line t =
+      ap {B = Text} (λ (x : Text). x ++ type_text b (field b terms t 2) ++ (0x29 ∷ newline ∷ [])) (no_inputs (ascii "(declare-fun " ++ literal_name (literal_of b t)))
       ∙ end_line (ascii "(declare-fun " ++ literal_name (literal_of b t) ++ ascii " " ++ ascii "()" ++ ascii " " ++ type_text b (field b terms t 2)) (ascii ")")
 
-  pub assume-line : (t tag : ℕ) → ascii "(assert " ++ to_string (to_sexpr (term b t) tag) flat ++ (0x29 ∷ newline ∷ []) ≡ script (Assume (term b t) tag ∷ [])
+  pub assume_line : (t tag : ℕ) → ascii "(assert " ++ to_string (to_sexpr (term b t) tag) flat ++ (0x29 ∷ newline ∷ []) ≡ script (Assume (term b t) tag ∷ [])
   unfolding script command_to_string context_to_string assumption
-  assume-line t tag = end_line (ascii "(assert " ++ to_string (to_sexpr (term b t) tag) flat) (ascii ")")
+  assume_line t tag = end_line (ascii "(assert " ++ to_string (to_sexpr (term b t) tag) flat) (ascii ")")
 
-  pub assume-not-line : (t tag : ℕ) → ascii "(assert " ++ to_string (negation (to_sexpr (term b t) tag)) flat ++ (0x29 ∷ newline ∷ []) ≡ script (AssumeNot (term b t) tag ∷ [])
+  pub assume_not_line : (t tag : ℕ) → ascii "(assert " ++ to_string (negation (to_sexpr (term b t) tag)) flat ++ (0x29 ∷ newline ∷ []) ≡ script (AssumeNot (term b t) tag ∷ [])
   unfolding script command_to_string context_to_string assumption
-  assume-not-line t tag = end_line (ascii "(assert " ++ to_string (negation (to_sexpr (term b t) tag)) flat) (ascii ")")
+  assume_not_line t tag = end_line (ascii "(assert " ++ to_string (negation (to_sexpr (term b t) tag)) flat) (ascii ")")
 
-pub push-line : ascii "(push 1)" ++ (newline ∷ []) ≡ script (Push ∷ [])
+pub push_line : ascii "(push 1)" ++ (newline ∷ []) ≡ script (Push ∷ [])
 unfolding script command_to_string CMD_PUSH
-push-line = refl
+push_line = refl
 
-pub pop-line : ascii "(pop 1)" ++ (newline ∷ []) ≡ script (Pop ∷ [])
+pub pop_line : ascii "(pop 1)" ++ (newline ∷ []) ≡ script (Pop ∷ [])
 unfolding script command_to_string CMD_POP
-pop-line = refl
+pop_line = refl
 
-pub check-line : ascii "(check-sat)" ++ (newline ∷ []) ≡ script (CheckSat ∷ [])
+pub check_line : ascii "(check-sat)" ++ (newline ∷ []) ≡ script (CheckSat ∷ [])
 unfolding script command_to_string CMD_CHECK_SAT
-check-line = refl
+check_line = refl
 
-pub model-line : ascii "(get-model)" ++ (newline ∷ []) ≡ script (GetModel ∷ [])
+pub model_line : ascii "(get-model)" ++ (newline ∷ []) ≡ script (GetModel ∷ [])
 unfolding script command_to_string CMD_GET_MODEL
-model-line = refl
+model_line = refl

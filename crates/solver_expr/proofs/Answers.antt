@@ -17,13 +17,13 @@ use Rattle.solver_expr.specs.Print.{fitting, printed_value, Answered}
 use Rattle.solver_expr.specs.declared.Printed.{Printed}
 use Rattle.solver_expr.specs.declared.Printed.TheVariants as answer
 
-pub answered-refused : {o : Outcome Text} (ref : Refusal) (t : List ℕ) → o ≡ refused (number ref) → Answered o (answer.Refused ref) t t
+pub answered_refused : {o : Outcome Text} (ref : Refusal) (t : List ℕ) → o ≡ refused (number ref) → Answered o (answer.Refused ref) t t
 unfolding printed_value map_outcome buffer_after
-answered-refused ref t e = record { answer = rw e; text = rw e }
+answered_refused ref t e = record { answer = rw e; text = rw e }
 
-pub answered-text : {o : Outcome Text} {x : Text} {t t' : List ℕ} {r s : ℕ} → o ≡ accepted x → r ≡ length x → Wrote x t t' s → Answered o (answer.Text r) t t'
+pub answered_text : {o : Outcome Text} {x : Text} {t t' : List ℕ} {r s : ℕ} → o ≡ accepted x → r ≡ length x → Wrote x t t' s → Answered o (answer.Text r) t t'
 unfolding printed_value map_outcome buffer_after
-answered-text e l w = record { answer = rw (e, l); text = rw e w.shown }
+answered_text e l w = record { answer = rw (e, l); text = rw e w.shown }
 
 -- a text that was measured is shorter than the largest number, so its length is known
 pub measured : {n r room : ℕ} → r ≡ min n MOST → r ≤ room → room < MOST → r ≡ n
@@ -38,17 +38,17 @@ too_long : (room : ℕ) (x : Text) → room < length x → fitting room x ≡ re
 unfolding fitting refuse ◌>>◌ number
 too_long room x h = rw (lt-ltb room (length x) h)
 
-pub fitted-done : {x t t' : List ℕ} {n m : ℕ} → n ≡ length x → n ≤ length t → Wrote x t t' m → Answered (fitting (length t) x) (answer.Text n) t t'
-fitted-done {x} {t} e h w = answered-text (fits (length t) x (omega arith)) e w
+pub fitted_done : {x t t' : List ℕ} {n m : ℕ} → n ≡ length x → n ≤ length t → Wrote x t t' m → Answered (fitting (length t) x) (answer.Text n) t t'
+fitted_done {x} {t} e h w = answered_text (fits (length t) x (omega arith)) e w
 
-pub fitted-long : (x : Text) {t : List ℕ} → length t < length x → Answered (fitting (length t) x) (answer.Refused BufferTooShort) t t
-fitted-long x {t} h = answered-refused BufferTooShort t (too_long (length t) x h)
+pub fitted_long : (x : Text) {t : List ℕ} → length t < length x → Answered (fitting (length t) x) (answer.Refused BufferTooShort) t t
+fitted_long x {t} h = answered_refused BufferTooShort t (too_long (length t) x h)
 
 -- refusal 7, and what comes behind it
-pub answered-outside : {test : Bool} (rest : Outcome Text) (t : List ℕ) → test ≡ true → Answered (refuse 7 test >> rest) (answer.Refused NotInBook) t t
+pub answered_outside : {test : Bool} (rest : Outcome Text) (t : List ℕ) → test ≡ true → Answered (refuse 7 test >> rest) (answer.Refused NotInBook) t t
 unfolding refuse ◌>>◌ number
-answered-outside rest t e = answered-refused NotInBook t (rw e)
+answered_outside rest t e = answered_refused NotInBook t (rw e)
 
-pub answered-inside : {test : Bool} {rest : Outcome Text} {r : Printed} {t t' : List ℕ} → test ≡ false → Answered rest r t t' → Answered (refuse 7 test >> rest) r t t'
+pub answered_inside : {test : Bool} {rest : Outcome Text} {r : Printed} {t t' : List ℕ} → test ≡ false → Answered rest r t t' → Answered (refuse 7 test >> rest) r t t'
 unfolding refuse ◌>>◌
-answered-inside e a = rw e a
+answered_inside e a = rw e a

@@ -12,12 +12,12 @@ use Rattle.book_test.specs.BookTest.{ready, tested_value, book_test_call}
 use Rattle.book_test.specs.Promise.{Promise}
 use Rattle.book_test.specs.declared.Tested.{Tested}
 use Rattle.book_test.specs.declared.Tested.TheVariants.{Good, Refused}
-use Rattle.book_test.proofs.Outcomes.{ready-passed}
+use Rattle.book_test.proofs.Outcomes.{ready_passed}
 use Rattle.book_test.proofs.Promise.{promise}
 use Rattle.solver_expr.specs.Print.{printed_value, printed, Answered}
 use Rattle.solver_expr.specs.declared.Printed.{Printed}
 use Rattle.solver_expr.specs.declared.Printed.TheVariants as answer
-use Rattle.solver_expr.proofs.Answers.{answered-refused}
+use Rattle.solver_expr.proofs.Answers.{answered_refused}
 
 -- what a call with this outcome leaves of a text buffer x and a scratch s
 abbrev pub Left : Outcome Text → (x s : List ℕ) → Printed → (x1 s1 : List ℕ) → Type 0
@@ -32,15 +32,15 @@ module _ (b : Book) (s : List ℕ) {d : Tested} {s1 : List ℕ} (tested : (teste
   unfolding book_test_call tested_value
   passed e = sym tested.0 ∙ ap tested_value e
 
-  pub book-good : d ≡ Good → Promise b
-  book-good e = promise b (ready-passed (length s) b (passed e)).1
+  pub book_good : d ≡ Good → Promise b
+  book_good e = promise b (ready_passed (length s) b (passed e)).1
 
-  pub call-refused : {why : Refusal} (rest : Outcome Text) (x : List ℕ) → d ≡ Refused why → Left (ready (length s) b >> rest) x s (answer.Refused why) x s1
+  pub call_refused : {why : Refusal} (rest : Outcome Text) (x : List ℕ) → d ≡ Refused why → Left (ready (length s) b >> rest) x s (answer.Refused why) x s1
   unfolding book_test_call tested_value ◌>>◌
-  call-refused {why} rest x e =
+  call_refused {why} rest x e =
       let stopped : ready (length s) b ≡ refused (number why) = sym tested.0 ∙ ap tested_value e in
-      left b s {o = ready (length s) b >> rest} (answered-refused why x (rw stopped)) tested.1
+      left b s {o = ready (length s) b >> rest} (answered_refused why x (rw stopped)) tested.1
 
-  pub call-good : {rest : Outcome Text} {r : Printed} {x x1 : List ℕ} → d ≡ Good → Answered rest r x x1 → Left (ready (length s) b >> rest) x s r x1 s1
+  pub call_good : {rest : Outcome Text} {r : Printed} {x x1 : List ℕ} → d ≡ Good → Answered rest r x x1 → Left (ready (length s) b >> rest) x s r x1 s1
   unfolding ◌>>◌
-  call-good e a = left b s (rw (passed e) a) tested.1
+  call_good e a = left b s (rw (passed e) a) tested.1

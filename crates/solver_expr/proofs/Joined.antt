@@ -13,14 +13,14 @@ elements (e ∷ˢ s) = e ∷ elements s
 unfoldable pub argument : SExprPrintConfig → SExpr → Text
 argument c e = space c ++ to_string e c
 
-comma-cons : (t : Text) (ts : List Text) → comma (t ∷ ts) [] ≡ t ++ comma ts []
+comma_cons : (t : Text) (ts : List Text) → comma (t ∷ ts) [] ≡ t ++ comma ts []
 unfolding comma
-comma-cons t [] = sym (append-nil t)
-comma-cons t (u ∷ ts) = ap {B = Text} (λ (x : Text). x ++ comma (u ∷ ts) []) (append-nil t)
+comma_cons t [] = sym (append-nil t)
+comma_cons t (u ∷ ts) = ap {B = Text} (λ (x : Text). x ++ comma (u ∷ ts) []) (append-nil t)
 
-pub args-joined : (s : SExprs) (c : SExprPrintConfig) → args_to_string s c ≡ seq_to_string (elements s) (argument c) []
+pub args_joined : (s : SExprs) (c : SExprPrintConfig) → args_to_string s c ≡ seq_to_string (elements s) (argument c) []
 unfolding args_to_string seq_to_string elements comma
-args-joined []ˢ c = refl
-args-joined (e ∷ˢ s) c =
-    ap {B = Text} (λ (x : Text). space c ++ to_string e c ++ x) (args-joined s c)
-    ∙ unfold argument seq_to_string in sym (comma-cons (argument c e) (map (argument c) (elements s)))
+args_joined []ˢ c = refl
+args_joined (e ∷ˢ s) c =
+    ap {B = Text} (λ (x : Text). space c ++ to_string e c ++ x) (args_joined s c)
+    ∙ unfold argument seq_to_string in sym (comma_cons (argument c e) (map (argument c) (elements s)))

@@ -15,48 +15,48 @@ use Rattle.book.specs.RExpr.{RExpr}
 use Rattle.book.specs.Decode.{Kind, quantifier_expr, kinds, kind_of, constant_of, to_rexprs, args_of, term_by, term_over, term}
 use Rattle.book_test.specs.Promise.{Promise, GoodKind}
 use Rattle.book_test.proofs.TermLaw.{term-over}
-use Rattle.book_test.proofs.TermKinds.{each-kind}
+use Rattle.book_test.proofs.TermKinds.{each_kind}
 use Rattle.solver_expr.specs.SolverExpr.{SExpr, SExprs, S, PP, []ˢ, ◌∷ˢ◌, func_appl}
 use Rattle.solver_expr.specs.Lowering.{bound_vars_to_sexpr, annotate, quantifier, to_sexpr, to_sexprs, patterns_to_sexprs}
 use Rattle.solver_expr.specs.Values.{term_of, terms_of, without_variables}
 
 module _ (b : Book) (tag : ℕ) (op : Text) where
-  pub appl-none : (start count : ℕ) → count ≡ 0 → S op ≡ func_appl op (terms_of b tag start count)
+  pub appl_none : (start count : ℕ) → count ≡ 0 → S op ≡ func_appl op (terms_of b tag start count)
   unfolding terms_of args_of to_rexprs entries to_sexprs func_appl
-  appl-none start zero h = refl
-  appl-none start (suc count) h = absurd (omega arith)
+  appl_none start zero h = refl
+  appl_none start (suc count) h = absurd (omega arith)
 
-  pub appl-some : (start count : ℕ) → (count ≡ 0 → ⊥) → PP (S op ∷ˢ terms_of b tag start count) ≡ func_appl op (terms_of b tag start count)
+  pub appl_some : (start count : ℕ) → (count ≡ 0 → ⊥) → PP (S op ∷ˢ terms_of b tag start count) ≡ func_appl op (terms_of b tag start count)
   unfolding terms_of args_of to_rexprs entries to_sexprs func_appl
-  appl-some start zero h = absurd (h refl)
-  appl-some start (suc count) h = refl
+  appl_some start zero h = absurd (h refl)
+  appl_some start (suc count) h = refl
 
 module _ (b : Book) (univ : Bool) (annotations : SExprs) (body : SExpr) where
-  pub vars-none : (start count : ℕ) → count ≡ 0 → body ≡ quantifier univ (map (constant_of b) (entries b start count)) annotations body
+  pub vars_none : (start count : ℕ) → count ≡ 0 → body ≡ quantifier univ (map (constant_of b) (entries b start count)) annotations body
   unfolding entries quantifier
-  vars-none start zero h = refl
-  vars-none start (suc count) h = absurd (omega arith)
+  vars_none start zero h = refl
+  vars_none start (suc count) h = absurd (omega arith)
 
-  pub vars-some : (start count : ℕ) → 0 < count
+  pub vars_some : (start count : ℕ) → 0 < count
       → PP (S (if univ then ascii "forall" else ascii "exists") ∷ˢ PP (bound_vars_to_sexpr (map (constant_of b) (entries b start count))) ∷ˢ annotate body annotations ∷ˢ []ˢ)
       ≡ quantifier univ (map (constant_of b) (entries b start count)) annotations body
   unfolding entries quantifier func_appl
-  vars-some start zero h = absurd (omega arith)
-  vars-some start (suc count) h = refl
+  vars_some start zero h = absurd (omega arith)
+  vars_some start (suc count) h = refl
 
 module _ (b : Book) (t : ℕ) where
   pub kind_at : {x : ℕ} (k : ℕ) → x ≡ field b terms t 0 → x ≡ k → kind_of (field b terms t 0) ≡ kind_of k
   kind_at k e h = ap kind_of (sym e ∙ h)
 
-  pub is-bare : without_variables b t ≡ true → (kind_of (field b terms t 0) ≡ quantifier_expr) × (field b terms t 3 ≡ 0)
+  pub is_bare : without_variables b t ≡ true → (kind_of (field b terms t 0) ≡ quantifier_expr) × (field b terms t 3 ≡ 0)
   unfolding without_variables kind_of
-  is-bare h =
+  is_bare h =
       let r = and_both (eqb (field b terms t 0) 8) (eqb (field b terms t 3) 0) h in
       (ap kind_of (eqb-true (field b terms t 0) 8 r.0), eqb-true (field b terms t 3) 0 r.1)
 
-  pub not-bare : field b terms t 0 ≡ 8 → without_variables b t ≡ false → 0 < field b terms t 3
+  pub not_bare : field b terms t 0 ≡ 8 → without_variables b t ≡ false → 0 < field b terms t 3
   unfolding without_variables
-  not-bare e h = some (field b terms t 3) (rw (eq-eqb (field b terms t 0) 8 e) at h)
+  not_bare e h = some (field b terms t 3) (rw (eq-eqb (field b terms t 0) 8 e) at h)
     where
       some : (n : ℕ) → (true && eqb n 0) ≡ false → 0 < n
       some zero h = let z : ◌≡◌ {A = ℕ} 0 1 = cc in absurd (omega arith)
@@ -67,20 +67,20 @@ module _ (b : Book) (t : ℕ) where
     unfolding term_of term_over
     by_kind {k} e tag = ap (λ (x : RExpr). to_sexpr x tag) (term-over b P t l ∙ ap (λ (j : Kind). term_by b j (term b) t) e)
 
-    pub good-kind : {k : Kind} → kind_of (field b terms t 0) ≡ k → GoodKind k b t
-    good-kind e = subst (λ (j : Kind). GoodKind j b t) e (P.term t l).fields
+    pub good_kind : {k : Kind} → kind_of (field b terms t 0) ≡ k → GoodKind k b t
+    good_kind e = subst (λ (j : Kind). GoodKind j b t) e (P.term t l).fields
 
-    pub body-smaller : kind_of (field b terms t 0) ≡ quantifier_expr → field b terms t 6 < t
+    pub body_smaller : kind_of (field b terms t 0) ≡ quantifier_expr → field b terms t 6 < t
     unfolding GoodKind
-    body-smaller e = (good-kind e).body
+    body_smaller e = (good_kind e).body
 
     -- a quantifier without variables is its body
     pub body_is : kind_of (field b terms t 0) ≡ quantifier_expr → field b terms t 3 ≡ 0 → (tag : ℕ) → term_of b tag (field b terms t 6) ≡ term_of b tag t
     unfolding to_sexpr term_by
-    body_is e z tag = unfold term_of in (vars-none b _ _ _ _ _ z ∙ sym (unfold term_of in by_kind e tag))
+    body_is e z tag = unfold term_of in (vars_none b _ _ _ _ _ z ∙ sym (unfold term_of in by_kind e tag))
 
     -- the last kind
-    pub last-kind : (k : ℕ) → field b terms t 0 ≡ k → (k ≡ 0 → ⊥) → (k ≡ 1 → ⊥) → (k ≡ 2 → ⊥) → (k ≡ 3 → ⊥) → (k ≡ 4 → ⊥) → (k ≡ 5 → ⊥) → (k ≡ 6 → ⊥) → (k ≡ 7 → ⊥) → field b terms t 0 ≡ 8
-    last-kind k e n0 n1 n2 n3 n4 n5 n6 n7 =
-        each-kind k (omega (arith, (P.term t l).known)) (λ h. absurd (n0 h)) (λ h. absurd (n1 h)) (λ h. absurd (n2 h)) (λ h. absurd (n3 h)) (λ h. absurd (n4 h)) (λ h. absurd (n5 h))
+    pub last_kind : (k : ℕ) → field b terms t 0 ≡ k → (k ≡ 0 → ⊥) → (k ≡ 1 → ⊥) → (k ≡ 2 → ⊥) → (k ≡ 3 → ⊥) → (k ≡ 4 → ⊥) → (k ≡ 5 → ⊥) → (k ≡ 6 → ⊥) → (k ≡ 7 → ⊥) → field b terms t 0 ≡ 8
+    last_kind k e n0 n1 n2 n3 n4 n5 n6 n7 =
+        each_kind k (omega (arith, (P.term t l).known)) (λ h. absurd (n0 h)) (λ h. absurd (n1 h)) (λ h. absurd (n2 h)) (λ h. absurd (n3 h)) (λ h. absurd (n4 h)) (λ h. absurd (n5 h))
         (λ h. absurd (n6 h)) (λ h. absurd (n7 h)) (λ h. e ∙ h)

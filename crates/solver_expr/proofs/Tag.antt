@@ -17,8 +17,8 @@ lengths_differ [] (y ∷ t) h = refl
 lengths_differ (x ∷ s) [] h = refl
 lengths_differ (x ∷ s) (y ∷ t) h = rw (← lengths_differ s t (λ e. h (ap suc e))) (sym (and-false (eqb x y)))
 
-pub tag-other : {s u : Text} → s ≡ u → (length s ≡ 4 → ⊥) → false ≡ same u (ascii "%tag")
-tag-other {s} {u} e h = lengths_differ u (ascii "%tag") (λ l. h (ap length e ∙ l))
+pub tag_other : {s u : Text} → s ≡ u → (length s ≡ 4 → ⊥) → false ≡ same u (ascii "%tag")
+tag_other {s} {u} e h = lengths_differ u (ascii "%tag") (λ l. h (ap length e ∙ l))
 
 four : (a b c d : Bool) → (((a && b) && c) && d) ≡ (a && (b && (c && (d && true))))
 four false b c d = refl
@@ -37,6 +37,6 @@ bytes (a ∷ b ∷ c ∷ []) h = absurd (omega arith)
 bytes (a ∷ b ∷ c ∷ d ∷ []) h = four (eqb a 37) (eqb b 116) (eqb c 97) (eqb d 103)
 bytes (a ∷ b ∷ c ∷ d ∷ e ∷ s) h = absurd (omega arith)
 
-pub tag-bytes : {s u : Text} → s ≡ u → length s ≡ 4
+pub tag_bytes : {s u : Text} → s ≡ u → length s ≡ 4
     → (((eqb (get_or s 0 0) 37 && eqb (get_or s 1 0) 116) && eqb (get_or s 2 0) 97) && eqb (get_or s 3 0) 103) ≡ same u (ascii "%tag")
-tag-bytes {s} e h = rw (← e) (bytes s h)
+tag_bytes {s} e h = rw (← e) (bytes s h)

@@ -16,23 +16,23 @@ abbrev pub Refused : {A : Type 0} → Outcome A → Type 0
 Refused (refused k) = k ≡ 20 → ⊥
 Refused (accepted a) = ⊥
 
-refused-then : {A : Type 0} (o : Outcome (Unit {0})) (rest : Outcome A) → Refused o → Refused (o >> rest)
+refused_then : {A : Type 0} (o : Outcome (Unit {0})) (rest : Outcome A) → Refused o → Refused (o >> rest)
 unfolding ◌>>◌
-refused-then (refused k) rest h = h
-refused-then (accepted u) rest h = absurd h
+refused_then (refused k) rest h = h
+refused_then (accepted u) rest h = absurd h
 
 module _ (b : Book) (bad : Refused (book_test b)) where
-  not-ready : (scratch : ℕ) → Refused (ready scratch b)
+  not_ready : (scratch : ℕ) → Refused (ready scratch b)
   unfolding ready
-  not-ready scratch = at (ltb scratch scratch_least)
+  not_ready scratch = at (ltb scratch scratch_least)
     where
       at : (x : Bool) → Refused (refuse 1 x >> book_test b)
       at true = unfold refuse ◌>>◌ in omega arith
       at false = unfold refuse ◌>>◌ in bad
 
-  pub call-refused : (s : Session) (c : Call) → Refused (call b s c)
+  pub call_refused : (s : Session) (c : Call) → Refused (call b s c)
   unfolding call move_call ask_call reply_call model_call
-  call-refused s (move_to h n) = refused-then (ready (length h.scratch) b) _ (not-ready (length h.scratch))
-  call-refused s (ask_for h n t) = refused-then (ready (length h.scratch) b) _ (not-ready (length h.scratch))
-  call-refused s (reply_with h ok r) = refused-then (ready (length h.scratch) b) _ (not-ready (length h.scratch))
-  call-refused s (model_with h r m) = refused-then (ready (length h.scratch) b) _ (not-ready (length h.scratch))
+  call_refused s (move_to h n) = refused_then (ready (length h.scratch) b) _ (not_ready (length h.scratch))
+  call_refused s (ask_for h n t) = refused_then (ready (length h.scratch) b) _ (not_ready (length h.scratch))
+  call_refused s (reply_with h ok r) = refused_then (ready (length h.scratch) b) _ (not_ready (length h.scratch))
+  call_refused s (model_with h r m) = refused_then (ready (length h.scratch) b) _ (not_ready (length h.scratch))

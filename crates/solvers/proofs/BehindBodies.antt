@@ -13,13 +13,13 @@ use Rattle.rsolver.specs.Methods.{Marker}
 use Rattle.rsolver.specs.SolverState.{SolverState, StackItem, bodies, pushed, pop_to, popped}
 use Rattle.rsolver.specs.REngine.{assume, declare_new_symbols, enter, set_context}
 use Rattle.rsolver.proofs.Placed.{having}
-use Rattle.rsolver.proofs.Related.{Keeps, itself, walk-k}
-use Rattle.rsolver.proofs.Fewer.{fuel-enough}
-use Rattle.rsolver.proofs.Fuel.{body-counts}
+use Rattle.rsolver.proofs.Related.{Keeps, itself, walk_k}
+use Rattle.rsolver.proofs.Fewer.{fuel_enough}
+use Rattle.rsolver.proofs.Fuel.{body_counts}
 use Rattle.solvers.specs.Fallbacks.{Anything, program_or}
 use Rattle.solvers.proofs.Good.{Good}
 use Rattle.solvers.proofs.PlacedBook.{Bounded}
-use Rattle.solvers.proofs.BehindProgram.{same-axioms, more-axioms, node-same, Stacked, set-k}
+use Rattle.solvers.proofs.BehindProgram.{same_axioms, more_axioms, node_same, Stacked, set_k}
 
 lower : (items : List StackItem) (t : SolverState) → length (pop_to items t).stack ≡ length items - 1
 unfolding pop_to
@@ -36,22 +36,22 @@ stacked =
     }
 
 module _ (x : Anything) {Q : Marker → Type 0} {p : Program} (B : Bounded Q p) where
-  pub body-goal : (e : RExpr) → EveryR (having Q p) e → (s : SolverState) → declare_new_symbols bodies (program_or x p) e s ≡ declare_new_symbols bodies p e s
+  pub body_goal : (e : RExpr) → EveryR (having Q p) e → (s : SolverState) → declare_new_symbols bodies (program_or x p) e s ≡ declare_new_symbols bodies p e s
   unfolding declare_new_symbols
-  body-goal e h s =
+  body_goal e h s =
       let fuel = suc (length (program_or x p).axioms) in
-      (walk-k (itself bodies Q p) (same-axioms x B) fuel e [] h).keeps s s refl
-      ∙ fuel-enough (body-counts p) fuel (more-axioms x B) e [] s tt
+      (walk_k (itself bodies Q p) (same_axioms x B) fuel e [] h).keeps s s refl
+      ∙ fuel_enough (body_counts p) fuel (more_axioms x B) e [] s tt
 
-  enter-k : (n : ℕ) → 0 < n → n ≤ length p.contexts → Keeps (λ s t. s ≡ t) (enter bodies (program_or x p) n) (enter bodies p n)
+  enter_k : (n : ℕ) → 0 < n → n ≤ length p.contexts → Keeps (λ s t. s ≡ t) (enter bodies (program_or x p) n) (enter bodies p n)
   unfolding enter ◌⨟◌
-  enter-k n h l =
+  enter_k n h l =
       record {
         keeps = λ s t e.
-            ap (λ (c : Context). assume bodies c.expr (declare_new_symbols bodies (program_or x p) c.expr (pushed n s))) (node-same x p n h l)
-            ∙ ap (assume bodies (node_at p n).expr) (body-goal (node_at p n).expr (B.has.node n) (pushed n s))
+            ap (λ (c : Context). assume bodies c.expr (declare_new_symbols bodies (program_or x p) c.expr (pushed n s))) (node_same x p n h l)
+            ∙ ap (assume bodies (node_at p n).expr) (body_goal (node_at p n).expr (B.has.node n) (pushed n s))
             ∙ ap (λ (u : SolverState). assume bodies (node_at p n).expr (declare_new_symbols bodies p (node_at p n).expr (pushed n u))) e;
       }
 
-  pub body-move : Good p → (n : ℕ) → n ≤ length p.contexts → (s : SolverState) → set_context bodies (program_or x p) n s ≡ set_context bodies p n s
-  body-move G n l s = (set-k x p G stacked enter-k n l).keeps s s refl
+  pub body_move : Good p → (n : ℕ) → n ≤ length p.contexts → (s : SolverState) → set_context bodies (program_or x p) n s ≡ set_context bodies p n s
+  body_move G n l s = (set_k x p G stacked enter_k n l).keeps s s refl

@@ -13,17 +13,17 @@ use Rattle.solvers.specs.declared.Owed.{Owed}
 use Rattle.solvers.specs.declared.Owed.TheVariants.{Nothing, Reply, Model}
 use Rattle.solvers.specs.Rule.{levels_of, goal_levels, levels_for, question_levels, Present, must_live}
 
-path-height : (p : Program) (ns : List ℕ) → height (levels_of p ns) ≡ suc (length ns)
+path_height : (p : Program) (ns : List ℕ) → height (levels_of p ns) ≡ suc (length ns)
 unfolding height levels_of
-path-height p [] = refl
-path-height p (n ∷ ns) = ap suc (path-height p ns)
+path_height p [] = refl
+path_height p (n ∷ ns) = ap suc (path_height p ns)
 
-for-height : (p : Program) (o : Owed) (n : ℕ) (e : RExpr) → height (levels_for p o n e) ≡ question_levels o + suc (depth p n)
+for_height : (p : Program) (o : Owed) (n : ℕ) (e : RExpr) → height (levels_for p o n e) ≡ question_levels o + suc (depth p n)
 unfolding height levels_for goal_levels question_levels depth
-for-height p Nothing n e = omega (arith, path-height p (path p n))
-for-height p Reply n e = omega (arith, path-height p (path p n))
-for-height p Model n e = omega (arith, path-height p (path p n))
+for_height p Nothing n e = omega (arith, path_height p (path p n))
+for_height p Reply n e = omega (arith, path_height p (path p n))
+for_height p Model n e = omega (arith, path_height p (path p n))
 
-pub live-height : (b : Book) (w : Present) → height (must_live b w) ≡ question_levels w.owed + suc (depth (program b) w.node)
+pub live_height : (b : Book) (w : Present) → height (must_live b w) ≡ question_levels w.owed + suc (depth (program b) w.node)
 unfolding must_live
-live-height b w = for-height (program b) w.owed w.node (term b w.goal)
+live_height b w = for_height (program b) w.owed w.node (term b w.goal)

@@ -10,11 +10,11 @@ use borrow.Author.Tests.{leb-true, eqb-true, ltb-true}
 use Rattle.basics.specs.Text.{same}
 use Rattle.basics.proofs.All.{All, end, more}
 use Rattle.basics.proofs.Bool.{and_both}
-use Rattle.basics.proofs.Texts.{same-eq}
+use Rattle.basics.proofs.Texts.{same_eq}
 use Rattle.book.specs.Book.{Book, terms, contexts, size, depth_most}
 use Rattle.book.specs.Program.{path_up, path, depth}
 use Rattle.book.specs.Decode.{program}
-use Rattle.book.proofs.Terms.{contexts-length, literals-length}
+use Rattle.book.proofs.Terms.{contexts_length, literals_length}
 use Rattle.book_test.specs.Promise.{Promise}
 use Rattle.rsolver.specs.LevelState.{LevelState, levelled, fresh}
 use Rattle.rsolver.specs.REngine.{set_context}
@@ -26,9 +26,9 @@ use Rattle.solvers.specs.Calls.{goal_fits, is_session}
 use Rattle.solvers.specs.Rule.{standing}
 use Rattle.solvers.specs.Image.{no_session}
 use Rattle.solvers.proofs.Good.{good}
-use Rattle.solvers.proofs.Standing.{standing-within}
-use Rattle.solvers.proofs.Contexts.{set-fresh}
-use Rattle.solvers.proofs.Enough.{levels-length}
+use Rattle.solvers.proofs.Standing.{standing_within}
+use Rattle.solvers.proofs.Contexts.{set_fresh}
+use Rattle.solvers.proofs.Enough.{levels_length}
 use Rattle.solvers.proofs.LevelBytes.{Small}
 use Rattle.solvers.proofs.Image.{Imaged}
 
@@ -37,21 +37,21 @@ pub record Stands (b : Book) (s : Session) : Type 0 where
   pub goal : goal_fits s.owed s.goal (size b terms) ≡ true
   pub levels : s.levels ≡ (standing (program b) (path (program b) s.node)).levels
 
-goal-small : (o : Owed) (goal n : ℕ) → n ≤ terms.most → goal_fits o goal n ≡ true → goal < 2 ^ 32
+goal_small : (o : Owed) (goal n : ℕ) → n ≤ terms.most → goal_fits o goal n ≡ true → goal < 2 ^ 32
 unfolding goal_fits
-goal-small Nothing goal n l e = omega (arith, eqb-true goal 0 e)
-goal-small Reply goal n l e = omega (arith, ltb-true goal n e)
-goal-small Model goal n l e = omega (arith, ltb-true goal n e)
+goal_small Nothing goal n l e = omega (arith, eqb-true goal 0 e)
+goal_small Reply goal n l e = omega (arith, ltb-true goal n e)
+goal_small Model goal n l e = omega (arith, ltb-true goal n e)
 
-pub within-small : {k : ℕ} {ls : List ℕ} → k ≤ depth_most → Within k ls → All Small ls
-within-small h end = end
-within-small {k} h (more {a = a} l ls) = more {a = a} (omega arith) (within-small {k = k} h ls)
+pub within_small : {k : ℕ} {ls : List ℕ} → k ≤ depth_most → Within k ls → All Small ls
+within_small h end = end
+within_small {k} h (more {a = a} l ls) = more {a = a} (omega arith) (within_small {k = k} h ls)
 
 module _ (b : Book) (P : Promise b) where
-  depth-within : (n : ℕ) → n ≤ size b contexts → depth (program b) n ≤ depth_most
+  depth_within : (n : ℕ) → n ≤ size b contexts → depth (program b) n ≤ depth_most
   unfolding depth path path_up
-  depth-within zero h = omega arith
-  depth-within (suc k) h = P.shallow k (omega arith)
+  depth_within zero h = omega arith
+  depth_within (suc k) h = P.shallow k (omega arith)
 
   module _ (s : Session) (e : is_session (program b) s ≡ true) where
     pub stands : Stands b s
@@ -64,26 +64,26 @@ module _ (b : Book) (P : Promise b) where
         let r2 = and_both (here && not at.missing) (same s.levels at.levels) r1.0 in
         let r3 = and_both here (not at.missing) r2.0 in
         record {
-          inside = omega (arith, leb-true s.node (length p.contexts) r3.0, contexts-length b);
-          goal = rw (literals-length b) at r1.1;
-          levels = same-eq s.levels at.levels r2.1 ∙ ap (λ (x : LevelState). x.levels) (set-fresh p (good b P) s.node);
+          inside = omega (arith, leb-true s.node (length p.contexts) r3.0, contexts_length b);
+          goal = rw (literals_length b) at r1.1;
+          levels = same_eq s.levels at.levels r2.1 ∙ ap (λ (x : LevelState). x.levels) (set_fresh p (good b P) s.node);
         }
 
     -- no record is declared deeper than the node
-    pub within-depth : Within (depth (program b) s.node) s.levels
+    pub within_depth : Within (depth (program b) s.node) s.levels
     unfolding depth
-    within-depth = rw stands.levels (standing-within (program b) (good b P) (path (program b) s.node))
+    within_depth = rw stands.levels (standing_within (program b) (good b P) (path (program b) s.node))
 
     pub imaged : Imaged s
     imaged =
         record {
-          node = omega (arith, stands.inside, P.contexts-laid.few);
-          goal = goal-small s.owed s.goal (size b terms) P.terms-laid.few stands.goal;
-          levels = ap length stands.levels ∙ levels-length (program b) (good b P) (path (program b) s.node);
-          small = within-small (depth-within s.node stands.inside) within-depth;
+          node = omega (arith, stands.inside, P.contexts_laid.few);
+          goal = goal_small s.owed s.goal (size b terms) P.terms_laid.few stands.goal;
+          levels = ap length stands.levels ∙ levels_length (program b) (good b P) (path (program b) s.node);
+          small = within_small (depth_within s.node stands.inside) within_depth;
         }
 
   -- no book has the node of what is no session
   pub none : is_session (program b) no_session ≡ true → ⊥
   unfolding no_session
-  none e = omega (arith, (stands no_session e).inside, P.contexts-laid.few)
+  none e = omega (arith, (stands no_session e).inside, P.contexts_laid.few)

@@ -14,24 +14,24 @@ Byte x = x < 256
 abbrev pub Small : ℕ → Type 0
 Small l = l < 65536
 
-pub length-level-bytes : (ls : List ℕ) → length (level_bytes ls) ≡ 2 * length ls
+pub length_level_bytes : (ls : List ℕ) → length (level_bytes ls) ≡ 2 * length ls
 unfolding level_bytes
-length-level-bytes [] = refl
-length-level-bytes (l ∷ ls) = omega (arith, length-level-bytes ls)
+length_level_bytes [] = refl
+length_level_bytes (l ∷ ls) = omega (arith, length_level_bytes ls)
 
-pub length-levels-in : (n : ℕ) (xs : List ℕ) → length xs ≡ 2 * n → length (levels_in xs) ≡ n
+pub length_levels_in : (n : ℕ) (xs : List ℕ) → length xs ≡ 2 * n → length (levels_in xs) ≡ n
 unfolding levels_in
-length-levels-in n [] e = omega arith
-length-levels-in n (a ∷ []) e = absurd (omega arith)
-length-levels-in n (a ∷ b ∷ xs) e = omega (arith, length-levels-in (n - 1) xs (omega arith))
+length_levels_in n [] e = omega arith
+length_levels_in n (a ∷ []) e = absurd (omega arith)
+length_levels_in n (a ∷ b ∷ xs) e = omega (arith, length_levels_in (n - 1) xs (omega arith))
 
 two_bytes : (l : ℕ) → Small l → l % 256 + 256 * (l / 256 % 256) ≡ l
 two_bytes l h = omega arith
 
-pub levels-back : {ls : List ℕ} → All Small ls → levels_in (level_bytes ls) ≡ ls
+pub levels_back : {ls : List ℕ} → All Small ls → levels_in (level_bytes ls) ≡ ls
 unfolding level_bytes levels_in
-levels-back end = refl
-levels-back (more {a = l} h hs) = λ i. two_bytes l h i ∷ levels-back hs i
+levels_back end = refl
+levels_back (more {a = l} h hs) = λ i. two_bytes l h i ∷ levels_back hs i
 
 low_byte : (a b : ℕ) → Byte a → (a + 256 * b) % 256 ≡ a
 low_byte a b h = omega arith

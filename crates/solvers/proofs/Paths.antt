@@ -39,18 +39,18 @@ Legal B (up ∷ os) [] = ⊥
 Legal B (up ∷ os) (m ∷ p) = Legal B os p
 Legal B (down n ∷ os) p = Chain B (n ∷ p) × Legal B os (n ∷ p)
 
-pub applied-append : (a b : List Op) (p : List ℕ) → applied (a ++ b) p ≡ applied b (applied a p)
+pub applied_append : (a b : List Op) (p : List ℕ) → applied (a ++ b) p ≡ applied b (applied a p)
 unfolding applied
-applied-append [] b p = refl
-applied-append (up ∷ a) b p = applied-append a b (tail p)
-applied-append (down n ∷ a) b p = applied-append a b (n ∷ p)
+applied_append [] b p = refl
+applied_append (up ∷ a) b p = applied_append a b (tail p)
+applied_append (down n ∷ a) b p = applied_append a b (n ∷ p)
 
-legal-append : (B : Program) (a b : List Op) (p : List ℕ) → Legal B a p → Legal B b (applied a p) → Legal B (a ++ b) p
+legal_append : (B : Program) (a b : List Op) (p : List ℕ) → Legal B a p → Legal B b (applied a p) → Legal B (a ++ b) p
 unfolding applied
-legal-append B [] b p h k = k
-legal-append B (up ∷ a) b [] h k = h
-legal-append B (up ∷ a) b (m ∷ p) h k = legal-append B a b p h k
-legal-append B (down n ∷ a) b p h k = (h.0, legal-append B a b (n ∷ p) h.1 k)
+legal_append B [] b p h k = k
+legal_append B (up ∷ a) b [] h k = h
+legal_append B (up ∷ a) b (m ∷ p) h k = legal_append B a b p h k
+legal_append B (down n ∷ a) b p h k = (h.0, legal_append B a b (n ∷ p) h.1 k)
 
 -- where the operations lead from p, and that each push is legal
 pub record Leads (B : Program) (os : List Op) (p q : List ℕ) : Type 0 where
@@ -58,42 +58,42 @@ pub record Leads (B : Program) (os : List Op) (p q : List ℕ) : Type 0 where
   pub legal : Legal B os p
 
 -- down to q, and then one more push
-leads-push : (B : Program) (os : List Op) (n : ℕ) (p q : List ℕ) → Chain B (n ∷ q) → Leads B os p q → Leads B (os ++ down n ∷ []) p (n ∷ q)
+leads_push : (B : Program) (os : List Op) (n : ℕ) (p q : List ℕ) → Chain B (n ∷ q) → Leads B os p q → Leads B (os ++ down n ∷ []) p (n ∷ q)
 unfolding applied
-leads-push B os n p q c d =
+leads_push B os n p q c d =
     record {
-      ends = applied-append os (down n ∷ []) p ∙ ap {B = List ℕ} (λ r. n ∷ r) d.ends;
-      legal = legal-append B os (down n ∷ []) p d.legal (rw d.ends (c, tt));
+      ends = applied_append os (down n ∷ []) p ∙ ap {B = List ℕ} (λ r. n ∷ r) d.ends;
+      legal = legal_append B os (down n ∷ []) p d.legal (rw d.ends (c, tt));
     }
 
-chain-tail : (B : Program) (p : List ℕ) → Chain B p → Chain B (tail p)
-chain-tail B [] c = tt
-chain-tail B (m ∷ p) c = c.3
+chain_tail : (B : Program) (p : List ℕ) → Chain B p → Chain B (tail p)
+chain_tail B [] c = tt
+chain_tail B (m ∷ p) c = c.3
 
-leads-adjust : (B : Program) (q p : List ℕ) → Chain B q → Chain B p → length p ≤ length q → Leads B (adjust q p) p q
+leads_adjust : (B : Program) (q p : List ℕ) → Chain B q → Chain B p → length p ≤ length q → Leads B (adjust q p) p q
 unfolding adjust is_top applied
-leads-adjust B [] [] c d h = record { ends = refl; legal = tt }
-leads-adjust B [] (m ∷ p) c d h = absurd (omega arith)
-leads-adjust B (n ∷ q) [] c d h = rw (lt-ltb 0 (suc (length q)) (omega arith)) (leads-push B (adjust q []) n [] q c (leads-adjust B q [] c.3 tt (omega arith)))
-leads-adjust B (n ∷ q) (m ∷ p) c d h = go (ltb (suc (length p)) (suc (length q))) refl (eqb m n) refl
-    (λ k. leads-adjust B q (m ∷ p) c.3 d k) (λ k. leads-adjust B q p c.3 d.3 k)
+leads_adjust B [] [] c d h = record { ends = refl; legal = tt }
+leads_adjust B [] (m ∷ p) c d h = absurd (omega arith)
+leads_adjust B (n ∷ q) [] c d h = rw (lt-ltb 0 (suc (length q)) (omega arith)) (leads_push B (adjust q []) n [] q c (leads_adjust B q [] c.3 tt (omega arith)))
+leads_adjust B (n ∷ q) (m ∷ p) c d h = go (ltb (suc (length p)) (suc (length q))) refl (eqb m n) refl
+    (λ k. leads_adjust B q (m ∷ p) c.3 d k) (λ k. leads_adjust B q p c.3 d.3 k)
   where
     go : (x : Bool) → ltb (suc (length p)) (suc (length q)) ≡ x → (y : Bool) → eqb m n ≡ y
         → (suc (length p) ≤ length q → Leads B (adjust q (m ∷ p)) (m ∷ p) q)
         → (length p ≤ length q → Leads B (adjust q p) p q)
         → Leads B (cond x (adjust q (m ∷ p) ++ down n ∷ []) (cond y [] (up ∷ (adjust q p ++ down n ∷ [])))) (m ∷ p) (n ∷ q)
-    go true e y e' f g = leads-push B (adjust q (m ∷ p)) n (m ∷ p) q c (f (omega (arith, ltb-true (suc (length p)) (suc (length q)) e)))
+    go true e y e' f g = leads_push B (adjust q (m ∷ p)) n (m ∷ p) q c (f (omega (arith, ltb-true (suc (length p)) (suc (length q)) e)))
     go false e true e' f g = record { ends = d.2 ∙ ap (path B) (eqb-true m n e') ∙ sym c.2; legal = tt }
     go false e false e' f g =
-        let r = leads-push B (adjust q p) n p q c (g (omega arith)) in
+        let r = leads_push B (adjust q p) n p q c (g (omega arith)) in
         record { ends = r.ends; legal = r.legal }
 
-pub leads-set : (B : Program) (q p : List ℕ) → Chain B q → Chain B p → Leads B (ops q p) p q
+pub leads_set : (B : Program) (q p : List ℕ) → Chain B q → Chain B p → Leads B (ops q p) p q
 unfolding ops applied
-leads-set B q [] c d = leads-adjust B q [] c tt (omega arith)
-leads-set B q (m ∷ p) c d = go (ltb (length q) (suc (length p))) refl (leads-set B q p c d.3)
+leads_set B q [] c d = leads_adjust B q [] c tt (omega arith)
+leads_set B q (m ∷ p) c d = go (ltb (length q) (suc (length p))) refl (leads_set B q p c d.3)
   where
     go : (x : Bool) → ltb (length q) (suc (length p)) ≡ x → Leads B (ops q p) p q
         → Leads B (cond x (up ∷ ops q p) (adjust q (m ∷ p))) (m ∷ p) q
     go true e r = record { ends = r.ends; legal = r.legal }
-    go false e r = leads-adjust B q (m ∷ p) c d (ltb-false (length q) (suc (length p)) e)
+    go false e r = leads_adjust B q (m ∷ p) c d (ltb-false (length q) (suc (length p)) e)

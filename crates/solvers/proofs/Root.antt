@@ -12,7 +12,7 @@ use Rattle.solver_expr.proofs.Clean.{CleanR}
 use Rattle.rsolver.specs.LevelState.{fresh}
 use Rattle.solvers.specs.declared.Owed.TheVariants.{Nothing}
 use Rattle.solvers.specs.Rule.{standing, Present, present}
-use Rattle.solvers.proofs.Good.{Good, good, term-clean}
+use Rattle.solvers.proofs.Good.{Good, good, term_clean}
 use Rattle.solvers.proofs.Questions.{Fits}
 
 unfoldable pub root_present : Present
@@ -23,8 +23,8 @@ module _ (b : Book) (ok : book_test b ≡ accepted tt) where
   G = good b (promise b ok)
 
   pub T : (t : ℕ) → t < size b terms → CleanR (term b t)
-  T = term-clean b (promise b ok)
+  T = term_clean b (promise b ok)
 
-  pub fits-start : Fits b root_present
+  pub fits_start : Fits b root_present
   unfolding root_present present standing path path_up fresh
-  fits-start = record { inside = omega arith; clear = refl; asks = refl }
+  fits_start = record { inside = omega arith; clear = refl; asks = refl }

@@ -11,7 +11,7 @@ use lib.ListN.{length}
 use borrow.Author.Tests.{eqb-true, eq-eqb}
 use Rattle.basics.specs.Lists.{member}
 use Rattle.book.specs.Program.{Program, path, depth, shared}
-use Rattle.book.proofs.Paths.{Chain, chain, on-suffix}
+use Rattle.book.proofs.Paths.{Chain, chain, on_suffix}
 use Rattle.solvers.specs.NoFallback.{Deepest}
 use Rattle.solvers.proofs.Good.{Good}
 
@@ -22,7 +22,7 @@ deepest B x (m ∷ p) q c h k = go (member m q) refl (eqb x m) refl (λ u. deepe
   where
     go : (b : Bool) → member m q ≡ b → (d : Bool) → eqb x m ≡ d → (member x p ≡ true → length (path B x) ≤ shared p q)
         → length (path B x) ≤ (if b then suc (length p) else shared p q)
-    go true e d f g = (on-suffix B x (m ∷ p) c h).0
+    go true e d f g = (on_suffix B x (m ∷ p) c h).0
     go false e true f g = absurd (true≢false (sym k ∙ ap {B = Bool} (λ y. member y q) (eqb-true x m f) ∙ e))
     go false e false f g = g (rw f at h)
 
@@ -43,8 +43,8 @@ is_shared B (m ∷ p) q c = go (member m q) refl (is_shared B p q c.3)
         or_right true e = refl
         or_right false e = e
 
-pub deepest-shared : (p : Program) → Good p → (old new : ℕ) → Deepest p old new (shared (path p old) (path p new))
+pub deepest_shared : (p : Program) → Good p → (old new : ℕ) → Deepest p old new (shared (path p old) (path p new))
 unfolding depth
-deepest-shared p G a n =
+deepest_shared p G a n =
     let c = chain p G.parents a in
     record { most = λ x. deepest p x (path p a) (path p n) c; met = is_shared p (path p a) (path p n) c }

@@ -24,9 +24,9 @@ unfolding ◌>>◌
 behind h (refused k) rest f = tt
 behind h (accepted u) rest f = f
 
-fitting-fits : (h : Host) (w : Written) → FitsIn h (fitting h w)
+fitting_fits : (h : Host) (w : Written) → FitsIn h (fitting h w)
 unfolding fitting
-fitting-fits h w = at _ refl
+fitting_fits h w = at _ refl
   where
     at : (x : Bool) → (ltb (length h.text) (length (text_of w)) || ltb (length h.reason) (length (reason_of w.result))) ≡ x → FitsIn h (refuse 10 x >> accepted w)
     at true e = unfold refuse ◌>>◌ in tt
@@ -34,10 +34,10 @@ fitting-fits h w = at _ refl
 
 pub call_fits : (b : Book) (s : Session) (c : Call) → FitsIn (host_of c) (call b s c)
 unfolding call move_call ask_call reply_call model_call host_of
-call_fits b s (move_to h n) = behind h _ _ (behind h _ _ (behind h _ _ (behind h _ _ (behind h _ _ (fitting-fits h _)))))
-call_fits b s (ask_for h n t) = behind h _ _ (behind h _ _ (behind h _ _ (behind h _ _ (behind h _ _ (fitting-fits h _)))))
-call_fits b s (reply_with h ok r) = behind h _ _ (behind h _ _ (behind h _ _ (fitting-fits h _)))
-call_fits b s (model_with h r m) = behind h _ _ (behind h _ _ (behind h _ _ (behind h _ _ (fitting-fits h _))))
+call_fits b s (move_to h n) = behind h _ _ (behind h _ _ (behind h _ _ (behind h _ _ (behind h _ _ (fitting_fits h _)))))
+call_fits b s (ask_for h n t) = behind h _ _ (behind h _ _ (behind h _ _ (behind h _ _ (behind h _ _ (fitting_fits h _)))))
+call_fits b s (reply_with h ok r) = behind h _ _ (behind h _ _ (behind h _ _ (fitting_fits h _)))
+call_fits b s (model_with h r m) = behind h _ _ (behind h _ _ (behind h _ _ (behind h _ _ (fitting_fits h _))))
 
 pub by_length : (r : Option ProofResult) (n : ℕ) → text_length (values_by r n) ≡ n
 unfolding text_length values_by

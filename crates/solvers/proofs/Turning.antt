@@ -12,8 +12,8 @@ use Rattle.book.specs.Book.{Book}
 use Rattle.book.specs.Program.{depth}
 use Rattle.book.specs.Decode.{program}
 use Rattle.book_test.specs.BookTest.{ready}
-use Rattle.book_test.proofs.Outcomes.{passed, both, same_answer, ready-passed}
-use Rattle.book_test.proofs.Answers.{ready-long}
+use Rattle.book_test.proofs.Outcomes.{passed, both, same_answer, ready_passed}
+use Rattle.book_test.proofs.Answers.{ready_long}
 use Rattle.solvers.specs.declared.Session.{Session}
 use Rattle.solvers.specs.declared.NarrowSession.{NarrowSession}
 use Rattle.solvers.specs.Calls.{is_session}
@@ -26,18 +26,18 @@ module _ (b : Book) (scratch : ℕ) where
     pub session : is_session (program b) w ≡ true
     pub shallow : depth (program b) w.node ≤ narrow_depth
 
-  pub widened-told : (s : NarrowSession) (w : Session) → widened scratch b s ≡ accepted w → Turnable w × (wide_of s ≡ w)
+  pub widened_told : (s : NarrowSession) (w : Session) → widened scratch b s ≡ accepted w → Turnable w × (wide_of s ≡ w)
   unfolding widened is_narrow wide_of
-  widened-told s w e =
+  widened_told s w e =
       let r1 = both (ready scratch b) _ e in
       let r2 = passed 20 (not (is_narrow (program b) s)) _ r1.1 in
       let ok = and_both (is_session (program b) (wide_of s)) (leb (depth (program b) s.node) narrow_depth) (not-false (is_narrow (program b) s) r2.0) in
       let is : wide_of s ≡ w = same_answer r2.1 in
       (rw (sym is) (record { tested = r1.0; session = ok.0; shallow = leb-true (depth (program b) s.node) narrow_depth ok.1 }), is)
 
-  pub narrowed-told : (w : Session) (s : NarrowSession) → narrowed scratch b w ≡ accepted s → Turnable w × (narrow_of w ≡ s)
+  pub narrowed_told : (w : Session) (s : NarrowSession) → narrowed scratch b w ≡ accepted s → Turnable w × (narrow_of w ≡ s)
   unfolding narrowed
-  narrowed-told w s e =
+  narrowed_told w s e =
       let r1 = both (ready scratch b) _ e in
       let r2 = passed 20 (not (is_session (program b) w)) _ r1.1 in
       let r3 = passed 24 (ltb narrow_depth (depth (program b) w.node)) _ r2.1 in (
@@ -60,10 +60,10 @@ module _ (b : Book) (scratch : ℕ) where
 
   back : (s : NarrowSession) (w : Session) → widened scratch b s ≡ accepted w → narrowed scratch b w ≡ accepted s
   unfolding wide_of narrow_of
-  back s w e = let r = widened-told s w e in rw (sym r.1) (narrows (wide_of s) (rw (sym r.1) at r.0))
+  back s w e = let r = widened_told s w e in rw (sym r.1) (narrows (wide_of s) (rw (sym r.1) at r.0))
 
   forth : (w : Session) (s : NarrowSession) → narrowed scratch b w ≡ accepted s → widened scratch b s ≡ accepted w
-  forth w s e = let r = narrowed-told w s e in rw (sym r.1) (widens w r.0)
+  forth w s e = let r = narrowed_told w s e in rw (sym r.1) (widens w r.0)
 
   exactly : (w : Session) → ready scratch b ≡ accepted tt → is_session (program b) w ≡ true
       → narrowed scratch b w ≡ (if leb (depth (program b) w.node) narrow_depth then accepted (narrow_of w) else refused 24)
@@ -78,8 +78,8 @@ module _ (b : Book) (scratch : ℕ) where
   turns = record { back = back; forth = forth; exactly = exactly }
 
 -- another scratch that is long enough changes nothing
-ready-again : (b : Book) (n m : ℕ) → scratch_least ≤ m → ready n b ≡ accepted tt → ready m b ≡ accepted tt
-ready-again b n m h e = sym (ready-long b m h) ∙ (ready-passed n b e).1
+ready_again : (b : Book) (n m : ℕ) → scratch_least ≤ m → ready n b ≡ accepted tt → ready m b ≡ accepted tt
+ready_again b n m h e = sym (ready_long b m h) ∙ (ready_passed n b e).1
 
-pub turnable-again : (b : Book) (n m : ℕ) → scratch_least ≤ m → (w : Session) → Turnable b n w → Turnable b m w
-turnable-again b n m h w t = record { tested = ready-again b n m h t.tested; session = t.session; shallow = t.shallow }
+pub turnable_again : (b : Book) (n m : ℕ) → scratch_least ≤ m → (w : Session) → Turnable b n w → Turnable b m w
+turnable_again b n m h w t = record { tested = ready_again b n m h t.tested; session = t.session; shallow = t.shallow }

@@ -1,5 +1,5 @@
 -- NO FALLBACK IS EVER MET on a book that passes the test, and `shared` is the depth of the deepest node that two paths share.
--- Proved in proofs/NoFallback.antt: no-fallback, shared-deepest. No statement has a hypothesis but the one it shows.
+-- Proved in proofs/NoFallback.antt: no_fallback, shared_deepest. No statement has a hypothesis but the one it shows.
 use Rattle.std.specs.Prelude.{ℕ, suc, ◌≤◌, ◌<◌, ◌≡◌, ◌⊎◌, true, List, ◌∷◌, ◌++◌, length}
 use Rattle.basics.specs.Lists.{member}
 use Rattle.book.specs.Book.{Book, terms, contexts, size, field}

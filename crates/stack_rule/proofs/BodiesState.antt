@@ -13,74 +13,74 @@ use Rattle.smt_engines.specs.Command.{script}
 use Rattle.smt_engines.specs.Reader.{read}
 use Rattle.rsolver.specs.Step.{Step}
 use Rattle.rsolver.specs.SolverState.{SolverState, new_solver, bodies, bodies_or, Valid}
-use Rattle.rsolver.proofs.Agree.{agree-sent, agree-length, agree-missing}
+use Rattle.rsolver.proofs.Agree.{agree_sent, agree_length, agree_missing}
 use Rattle.solvers.specs.Session.{Written}
 use Rattle.solvers.specs.Calls.{Call, call}
 use Rattle.solvers.specs.Rule.{open_questions, present, must_live}
 use Rattle.solvers.proofs.Questions.{state_at, Kept}
-use Rattle.solvers.proofs.BadBook.{Refused, call-refused}
-use Rattle.solvers.proofs.Bodies.{stack-for, missing-for, call_same, two-levels}
+use Rattle.solvers.proofs.BadBook.{Refused, call_refused}
+use Rattle.solvers.proofs.Bodies.{stack-for, missing_for, call_same, two_levels}
 use Rattle.stack_rule.specs.Events.{Event, calls, writes, Trace, happens, start}
 use Rattle.stack_rule.specs.Bodies.{do_if_accepted, do_event, do_from}
 use Rattle.stack_rule.specs.StackRule.{RuleAt}
 use Rattle.stack_rule.proofs.Holds.{kept}
-use Rattle.stack_rule.proofs.Bodies.{Carries, refused-does}
-use Rattle.stack_rule.proofs.Sound.{Sound, passed, failed, sound-after}
+use Rattle.stack_rule.proofs.Bodies.{Carries, refused_does}
+use Rattle.stack_rule.proofs.Sound.{Sound, passed, failed, sound_after}
 
-carried-stack : (t : Trace) (u : SolverState) → Carries t u → length u.stack ≡ open_questions t.due.owed + depth (program t.book) t.due.node
+carried_stack : (t : Trace) (u : SolverState) → Carries t u → length u.stack ≡ open_questions t.due.owed + depth (program t.book) t.due.node
 unfolding state_at
-carried-stack t u x = sym (agree-length x.agree) ∙ stack-for t.book x.holds.tested t.due t.due.owed x.holds.fits.asks
+carried_stack t u x = sym (agree_length x.agree) ∙ stack-for t.book x.holds.tested t.due t.due.owed x.holds.fits.asks
 
-carried-missing : (t : Trace) (u : SolverState) → Carries t u → u.missing ≡ false
+carried_missing : (t : Trace) (u : SolverState) → Carries t u → u.missing ≡ false
 unfolding state_at
-carried-missing t u x =
-    sym (agree-missing x.agree)
-    ∙ missing-for t.book x.holds.tested t.due t.due.owed x.holds.fits.clear x.holds.fits.asks
+carried_missing t u x =
+    sym (agree_missing x.agree)
+    ∙ missing_for t.book x.holds.tested t.due t.due.owed x.holds.fits.clear x.holds.fits.asks
 
-pub sound-sent : {t : Trace} {u : SolverState} → Sound t u → script u.sent ≡ t.text
+pub sound_sent : {t : Trace} {u : SolverState} → Sound t u → script u.sent ≡ t.text
 unfolding start new_solver script
-sound-sent (passed k) = ap script (sym (agree-sent k.agree)) ∙ sym k.holds.spelled
-sound-sent (failed b h) = refl
+sound_sent (passed k) = ap script (sym (agree_sent k.agree)) ∙ sym k.holds.spelled
+sound_sent (failed b h) = refl
 
-pub sound-stack : {t : Trace} {u : SolverState} → Sound t u → length u.stack ≡ open_questions t.due.owed + depth (program t.book) t.due.node
+pub sound_stack : {t : Trace} {u : SolverState} → Sound t u → length u.stack ≡ open_questions t.due.owed + depth (program t.book) t.due.node
 unfolding start new_solver present open_questions depth path path_up
-sound-stack (passed {t = t} {u = u} k) = carried-stack t u k
-sound-stack (failed b h) = refl
+sound_stack (passed {t = t} {u = u} k) = carried_stack t u k
+sound_stack (failed b h) = refl
 
-pub sound-missing : {t : Trace} {u : SolverState} → Sound t u → u.missing ≡ false
+pub sound_missing : {t : Trace} {u : SolverState} → Sound t u → u.missing ≡ false
 unfolding new_solver
-sound-missing (passed {t = t} {u = u} k) = carried-missing t u k
-sound-missing (failed b h) = refl
+sound_missing (passed {t = t} {u = u} k) = carried_missing t u k
+sound_missing (failed b h) = refl
 
-pub sound-valid : {t : Trace} {u : SolverState} → Sound t u → RuleAt t → Valid (open_questions t.due.owed) u
-sound-valid {t} s r =
+pub sound_valid : {t : Trace} {u : SolverState} → Sound t u → RuleAt t → Valid (open_questions t.due.owed) u
+sound_valid {t} s r =
     record {
       command_stacks = must_live t.book t.due;
-      reads = ap read (sound-sent s) ∙ r.reads;
-      lengths = omega (arith, sound-stack s, r.height, two-levels t.due.owed);
+      reads = ap read (sound_sent s) ∙ r.reads;
+      lengths = omega (arith, sound_stack s, r.height, two_levels t.due.owed);
     }
 
 -- ---- Pop, whatever it does with an empty stack
 module _ (wrong : Step SolverState) where
-  does-same : (t : Trace) (u : SolverState) → Carries t u → (c : Call) (o : Outcome Written) → Kept t.book t.due c o
+  does_same : (t : Trace) (u : SolverState) → Carries t u → (c : Call) (o : Outcome Written) → Kept t.book t.due c o
       → do_if_accepted (bodies_or wrong) t.book c o u ≡ do_if_accepted bodies t.book c o u
   unfolding do_if_accepted
-  does-same t u x c (refused k) h = refl
-  does-same t u x c (accepted w) h =
-      call_same t.book x.holds.tested wrong c t.due.owed u h.open_for (omega (arith, carried-stack t u x))
+  does_same t u x c (refused k) h = refl
+  does_same t u x c (accepted w) h =
+      call_same t.book x.holds.tested wrong c t.due.owed u h.open_for (omega (arith, carried_stack t u x))
 
-  event-same : {t : Trace} {u : SolverState} → Sound t u → (e : Event) → do_event (bodies_or wrong) t e u ≡ do_event bodies t e u
+  event_same : {t : Trace} {u : SolverState} → Sound t u → (e : Event) → do_event (bodies_or wrong) t e u ≡ do_event bodies t e u
   unfolding do_event
-  event-same (passed {t = t} {u = u} k) (calls c) = does-same t u k c (call t.book t.now c) (kept t k.holds c)
-  event-same (passed k) (writes x) = refl
-  event-same (failed b h) (calls c) =
+  event_same (passed {t = t} {u = u} k) (calls c) = does_same t u k c (call t.book t.now c) (kept t k.holds c)
+  event_same (passed k) (writes x) = refl
+  event_same (failed b h) (calls c) =
       let o = call (start b).book (start b).now c in
-      let r : Refused o = unfold start in call-refused b h (start b).now c in
-      refused-does (bodies_or wrong) (start b).book c o r new_solver ∙ sym (refused-does bodies (start b).book c o r new_solver)
-  event-same (failed b h) (writes x) = refl
+      let r : Refused o = unfold start in call_refused b h (start b).now c in
+      refused_does (bodies_or wrong) (start b).book c o r new_solver ∙ sym (refused_does bodies (start b).book c o r new_solver)
+  event_same (failed b h) (writes x) = refl
 
   pub pops_same : (es : List Event) (t : Trace) (u : SolverState) → Sound t u → do_from (bodies_or wrong) t es u ≡ do_from bodies t es u
   unfolding do_from
   pops_same [] t u s = refl
   pops_same (e ∷ es) t u s =
-      ap (do_from (bodies_or wrong) (happens t e) es) (event-same s e) ∙ pops_same es (happens t e) (do_event bodies t e u) (sound-after s e)
+      ap (do_from (bodies_or wrong) (happens t e) es) (event_same s e) ∙ pops_same es (happens t e) (do_event bodies t e u) (sound_after s e)

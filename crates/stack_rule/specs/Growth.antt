@@ -1,4 +1,4 @@
--- What a growth of the book leaves as it was. Proved in proofs/: session-kept (GrownCalls), run-grows and never-9-after (Growing).
+-- What a growth of the book leaves as it was. Proved in proofs/: session_kept (GrownCalls), run_grows and never_9_after (Growing).
 use Rattle.std.specs.Prelude.{ℕ, ◌≤◌, ◌<◌, ◌≡◌, true, List}
 use Rattle.basics.specs.Lists.{member}
 use Rattle.basics.specs.Outcome.{refused}

@@ -11,7 +11,7 @@ use Rattle.basics.specs.Text.{Text, ascii, same}
 use Rattle.basics.specs.Lists.{all_below, all}
 use Rattle.basics.proofs.Bool.{and_both}
 use Rattle.basics.proofs.Counting.{below_each}
-use Rattle.basics.proofs.Texts.{same-eq, same-no, same_length}
+use Rattle.basics.proofs.Texts.{same_eq, same_no, same_length}
 use Rattle.symbols.specs.Symbols.{general_words, command_words, reserved_words, among, reserved}
 use Rattle.symbols.specs.Masks.{in_masks}
 use Rattle.symbols.specs.Pieces.{LONGEST, only_if, pieces_by, pieces}
@@ -41,7 +41,7 @@ same-texts [] (y ∷ ys) h = absurd (false≢true h)
 same-texts (x ∷ xs) [] h = absurd (false≢true h)
 same-texts (x ∷ xs) (y ∷ ys) h =
     let r = and_both (same x y) (same_texts xs ys) h in
-    rw (same-eq x y r.0, same-texts xs ys r.1)
+    rw (same_eq x y r.0, same-texts xs ys r.1)
 
 -- what the code looks at for a name of n letters
 abbrev lent : ℕ → Text
@@ -60,13 +60,13 @@ module _ (n : ℕ) (h : n ≤ LONGEST) where
   checked : right n ≡ true
   checked = below_each (suc LONGEST) right table n (omega arith)
 
-  pub places-rise : get_or places n 0 ≤ get_or places (n + 1) 0
+  pub places_rise : get_or places n 0 ≤ get_or places (n + 1) 0
   unfolding right
-  places-rise = leb-true _ _ (and_both (leb (get_or places n 0) (get_or places (n + 1) 0)) _ checked).0
+  places_rise = leb-true _ _ (and_both (leb (get_or places n 0) (get_or places (n + 1) 0)) _ checked).0
 
-  pub places-end : get_or places (n + 1) 0 ≤ 387
+  pub places_end : get_or places (n + 1) 0 ≤ 387
   unfolding right
-  places-end =
+  places_end =
       leb-true _ _ (and_both (leb (get_or places (n + 1) 0) 387) _ (and_both (leb (get_or places n 0) (get_or places (n + 1) 0)) _ checked).1).0
 
   words_are : pieces n (lent n) ≡ of_length n reserved_words
@@ -75,19 +75,19 @@ module _ (n : ℕ) (h : n ≤ LONGEST) where
       same-texts _ _ (and_both (leb (get_or places (n + 1) 0) 387) _ (and_both (leb (get_or places n 0) (get_or places (n + 1) 0)) _ checked).1).1
 
 -- words of another length don't count
-among-length : (n : Text) (ws : List Text) → among n (of_length (length n) ws) ≡ among n ws
+among_length : (n : Text) (ws : List Text) → among n (of_length (length n) ws) ≡ among n ws
 unfolding among of_length only_if
-among-length n [] = refl
-among-length n (w ∷ ws) = at (eqb (length n) (length w)) refl (among-length n ws)
+among_length n [] = refl
+among_length n (w ∷ ws) = at (eqb (length n) (length w)) refl (among_length n ws)
   where
     at : (t : Bool) → eqb (length n) (length w) ≡ t → among n (of_length (length n) ws) ≡ among n ws
         → among n (only_if t (w ∷ []) ++ of_length (length n) ws) ≡ among n (w ∷ ws)
     at true e h = rw h
     at false e h = rw (← same_length n w (eqb-false (length n) (length w) e)) h
 
-pub among-lent : (n : Text) → length n ≤ LONGEST → among n (pieces (length n) (lent (length n))) ≡ reserved n
+pub among_lent : (n : Text) → length n ≤ LONGEST → among n (pieces (length n) (lent (length n))) ≡ reserved n
 unfolding reserved
-among-lent n h = rw (words_are (length n) h) (among-length n reserved_words)
+among_lent n h = rw (words_are (length n) h) (among_length n reserved_words)
 
 -- a name that fails a test that each word passes is none of them
 none_of : (test : Text → Bool) (n : Text) (ws : List Text) → all ws test ≡ true → test n ≡ false → among n ws ≡ false
@@ -95,19 +95,19 @@ unfolding all among
 none_of test n [] a f = refl
 none_of test n (w ∷ ws) a f =
     let r = and_both (test w) (all ws test) a in
-    rw (← same-no n w (λ e. false≢true (sym f ∙ ap test e ∙ r.0))) (none_of test n ws r.1 f)
+    rw (← same_no n w (λ e. false≢true (sym f ∙ ap test e ∙ r.0))) (none_of test n ws r.1 f)
 
 fails : (test : Text → Bool) → all reserved_words test ≡ true → (n : Text) → test n ≡ false → false ≡ reserved n
 unfolding reserved
 fails test a n f = sym (none_of test n reserved_words a f)
 
-pub empty-none : (n : Text) → length n ≡ 0 → false ≡ reserved n
+pub empty_none : (n : Text) → length n ≡ 0 → false ≡ reserved n
 unfolding all reserved_words general_words command_words
-empty-none n h = fails (λ w. ltb 0 (length w)) refl n (le-ltb 0 (length n) (omega arith))
+empty_none n h = fails (λ w. ltb 0 (length w)) refl n (le-ltb 0 (length n) (omega arith))
 
-pub long-none : (n : Text) → LONGEST < length n → false ≡ reserved n
+pub long_none : (n : Text) → LONGEST < length n → false ≡ reserved n
 unfolding all reserved_words general_words command_words
-long-none n h = fails (λ w. leb (length w) LONGEST) refl n (lt-leb (length n) LONGEST h)
+long_none n h = fails (λ w. leb (length w) LONGEST) refl n (lt-leb (length n) LONGEST h)
 
 -- the looks at the first and the last letter, with the masks of the code
 abbrev begins : Text → Bool
@@ -116,9 +116,9 @@ begins w = in_masks 0x200000000 0xd30fa80084114 (get_or w 0 0)
 abbrev ends : Text → Bool
 ends w = in_masks 0x200000000 0x1dd1e882001080 (get_or w (length w - 1) 0)
 
-pub first-none : (n : Text) → begins n ≡ false → false ≡ reserved n
+pub first_none : (n : Text) → begins n ≡ false → false ≡ reserved n
 unfolding all in_masks reserved_words general_words command_words
-first-none = fails begins refl
+first_none = fails begins refl
 
 pub last_none : (n : Text) → ends n ≡ false → false ≡ reserved n
 unfolding all in_masks reserved_words general_words command_words

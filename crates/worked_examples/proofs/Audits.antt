@@ -74,9 +74,9 @@ unfolding stated constant_tag node1 question1 node2 question2 pops own
 scripts = tt
 
 -- it is what our own writer makes
-pub own-holds : (ran stated (ask_for (host 400 0) 1 3 ∷ reply_with (host 400 0) true (ascii "unsat") ∷ ask_for (host 400 0) 2 4 ∷ [])).text ≡ own
+pub own_holds : (ran stated (ask_for (host 400 0) 1 3 ∷ reply_with (host 400 0) true (ascii "unsat") ∷ ask_for (host 400 0) 2 4 ∷ [])).text ≡ own
 unfolding everything books hosts scripts
-own-holds = refl
+own_holds = refl
 
 ask : (questions : List ℕ) → Text → AuditCalled
 ask questions script = audit_call stated dirty (bytes32 questions) script
@@ -102,9 +102,9 @@ acceptances =
     ∷ (ask (1 ∷ 3 ∷ []) (ascii "(push 1)\n(assert p)\n(pop 1)\n(get-model)\n" ++ node1 ++ ascii "(push 1)\n(pop 1)\n" ++ question1 ++ ascii "(assert p)\n"), says agrees)
     ∷ []
 
-pub acceptances-hold : map (λ e. e.0) acceptances ≡ map (λ e. e.1) acceptances
+pub acceptances_hold : map (λ e. e.0) acceptances ≡ map (λ e. e.1) acceptances
 unfolding acceptances
-acceptances-hold = refl
+acceptances_hold = refl
 
 -- ---- REJECTED, counted from 1
 pub rejections : List (AuditCalled × AuditCalled)
@@ -126,6 +126,6 @@ rejections =
     ∷ (ask (2 ∷ 4 ∷ 1 ∷ 3 ∷ []) own, says (differs_at 1))
     ∷ []
 
-pub rejections-hold : map (λ e. e.0) rejections ≡ map (λ e. e.1) rejections
+pub rejections_hold : map (λ e. e.0) rejections ≡ map (λ e. e.1) rejections
 unfolding rejections
-rejections-hold = refl
+rejections_hold = refl

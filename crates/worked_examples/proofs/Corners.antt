@@ -71,9 +71,9 @@ layouts =
     ∷ (line 22 7 0, shown (ascii "%tag"))
     ∷ []
 
-pub layouts-hold : map (λ e. e.0) layouts ≡ map (λ e. e.1) layouts
+pub layouts_hold : map (λ e. e.0) layouts ≡ map (λ e. e.1) layouts
 unfolding layouts
-layouts-hold = refl
+layouts_hold = refl
 
 -- what no call reaches: Comma, SeqToString, Eq and BigAnd
 a : SExpr
@@ -95,9 +95,9 @@ builders =
     ∷ (to_string (big_and (a ∷ˢ boolean false ∷ˢ a ∷ˢ []ˢ)) flat, ascii "(and a false a)")
     ∷ []
 
-pub builders-hold : map (λ e. e.0) builders ≡ map (λ e. e.1) builders
+pub builders_hold : map (λ e. e.0) builders ≡ map (λ e. e.1) builders
 unfolding builders
-builders-hold = refl
+builders_hold = refl
 
 -- ---- BUFFERS, THE EMPTY BOOK, TRACES
 fresh : Book → Call → Seen
@@ -153,9 +153,9 @@ limits =
     ∷ (trace_in 4 9, print (hides 9 7))
     ∷ []
 
-pub limits-hold : map (λ e. e.0) limits ≡ map (λ e. e.1) limits
+pub limits_hold : map (λ e. e.0) limits ≡ map (λ e. e.1) limits
 unfolding limits
-limits-hold = refl
+limits_hold = refl
 
 -- ---- WHAT IS DECLARED, AND WHICH AXIOMS ARE SENT
 -- moves from a fresh session, one after the other: all their text
@@ -267,6 +267,6 @@ declared =
     )
     ∷ []
 
-pub declared-hold : map (λ e. e.0) declared ≡ map (λ e. e.1) declared
+pub declared_hold : map (λ e. e.0) declared ≡ map (λ e. e.1) declared
 unfolding declared
-declared-hold = refl
+declared_hold = refl

@@ -229,6 +229,6 @@ table =
     ∷ (counted (run sample (move 2 ∷ recording ∷ move 4 ∷ [])), once (1 ∷ 1 ∷ 1 ∷ 1 ∷ 1 ∷ 1 ∷ 1 ∷ 1 ∷ []) (0 ∷ 0 ∷ 0 ∷ 0 ∷ 0 ∷ []))
     ∷ []
 
-pub table-holds : map (λ e. e.0) table ≡ map (λ e. e.1) table
+pub table_holds : map (λ e. e.0) table ≡ map (λ e. e.1) table
 unfolding table
-table-holds = refl
+table_holds = refl

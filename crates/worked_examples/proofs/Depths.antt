@@ -9,19 +9,19 @@ use Rattle.book.specs.Book.{offset, size, field}
 use Rattle.book_depth.specs.Depth.{steps, node_depth, is_shallow, shallow}
 use Rattle.book_test.specs.BookTest.{book_test}
 use Rattle.book_layout.specs.Layout.{count_of, start_of, entry_of, assembled}
-use Rattle.worked_examples.proofs.Chains.{chain_book, chain-test}
+use Rattle.worked_examples.proofs.Chains.{chain_book, chain_test}
 
 pub deepest : book_test (chain_book 400) ≡ accepted tt
-deepest = chain-test 400 (omega arith)
+deepest = chain_test 400 (omega arith)
 
-pub too-deep : book_test (chain_book 401) ≡ refused 6
-too-deep = chain-test 401 (omega arith)
+pub too_deep : book_test (chain_book 401) ≡ refused 6
+too_deep = chain_test 401 (omega arith)
 
 -- Each read counts its way through the bytes.
 pub computed : Bool
 unfolding all_below join_below bytes4 row offset size field steps node_depth is_shallow shallow count_of start_of entry_of assembled
 computed = shallow (chain_book 65)
 
-pub not-deep : computed ≡ true
+pub not_deep : computed ≡ true
 unfolding computed
-not-deep = refl
+not_deep = refl

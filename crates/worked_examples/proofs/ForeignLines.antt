@@ -74,9 +74,9 @@ refusals =
     ∷ (audit_call [] (replicate 127 0x55) [] [], record { answer = refused 1; scratch = replicate 127 0x55 })
     ∷ []
 
-pub refusals-hold : map (λ e. e.0) refusals ≡ map (λ e. e.1) refusals
+pub refusals_hold : map (λ e. e.0) refusals ≡ map (λ e. e.1) refusals
 unfolding refusals
-refusals-hold = refl
+refusals_hold = refl
 
 -- ---- LINES
 pub commands : List (Bool × Bool)
@@ -105,6 +105,6 @@ commands =
     ∷ (is_command [], false)
     ∷ []
 
-pub commands-hold : map (λ e. e.0) commands ≡ map (λ e. e.1) commands
+pub commands_hold : map (λ e. e.0) commands ≡ map (λ e. e.1) commands
 unfolding commands
-commands-hold = refl
+commands_hold = refl

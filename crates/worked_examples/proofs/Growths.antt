@@ -117,9 +117,9 @@ growths =
     ∷ (grew 500 after_probe probe, refuses 500 5)  -- term 3 is referred to by now
     ∷ []
 
-pub growths-hold : map (λ e. e.0) growths ≡ map (λ e. e.1) growths
+pub growths_hold : map (λ e. e.0) growths ≡ map (λ e. e.1) growths
 unfolding growths
-growths-hold = refl
+growths_hold = refl
 
 -- ---- growths between calls
 growing : List Event
@@ -142,9 +142,9 @@ sent : Text
 sent =
     ascii "(push 1)\n(declare-fun probe%0 () Bool)\n(assert (= probe%0 true))\n(push 1)\n(push 1)\n(assert (not true))\n(check-sat)\n(get-model)\n(pop 1)\n(pop 1)\n(push 1)\n(declare-fun probe%1 () Int)\n(assert (= probe%1 7))\n"
 
-pub grown-texts : List (List ℕ × List ℕ)
+pub grown_texts : List (List ℕ × List ℕ)
 unfolding everything books hosts writing made growing sent
-grown-texts =
+grown_texts =
     ((run Books.none growing).book, after_probe)
     ∷ ((run Books.none growing).text, sent)
     ∷ ((host_run Books.none growing).book, after_probe)
@@ -152,20 +152,20 @@ grown-texts =
     ∷ (script (do_all Books.none growing).sent, sent)
     ∷ []
 
-pub grown-texts-hold : map (λ e. e.0) grown-texts ≡ map (λ e. e.1) grown-texts
-unfolding grown-texts
-grown-texts-hold = refl
+pub grown_texts_hold : map (λ e. e.0) grown_texts ≡ map (λ e. e.1) grown_texts
+unfolding grown_texts
+grown_texts_hold = refl
 
 -- what the reader has, and what the newest book gives for the present
 levels_of : Trace → Reader × Reader
 levels_of t = (read t.text, live (must_live t.book t.due))
 
 -- while a reply and while a model is owed, and at the end
-pub grown-levels : List (Reader × Reader)
+pub grown_levels : List (Reader × Reader)
 unfolding everything books hosts writing made growing levels_of
-grown-levels =
+grown_levels =
     levels_of (run Books.none (take 6 growing)) ∷ levels_of (run Books.none (take 8 growing)) ∷ levels_of (run Books.none growing) ∷ []
 
-pub grown-levels-hold : map (λ e. e.0) grown-levels ≡ map (λ e. e.1) grown-levels
-unfolding grown-levels
-grown-levels-hold = refl
+pub grown_levels_hold : map (λ e. e.0) grown_levels ≡ map (λ e. e.1) grown_levels
+unfolding grown_levels
+grown_levels_hold = refl

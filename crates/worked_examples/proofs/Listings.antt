@@ -52,9 +52,9 @@ obligations =
     ∷ (list nameless 9 9 80, refused 80 28)
     ∷ []
 
-pub obligations-hold : map (λ e. e.0) obligations ≡ map (λ e. e.1) obligations
+pub obligations_hold : map (λ e. e.0) obligations ≡ map (λ e. e.1) obligations
 unfolding obligations
-obligations-hold = refl
+obligations_hold = refl
 
 -- a term as the goal at node 0
 goal : Book → ℕ → Seen
@@ -85,9 +85,9 @@ leaves =
     ∷ (goal declaring 13, says (ascii ":red 40"))
     ∷ []
 
-pub leaves-hold : map (λ e. e.0) leaves ≡ map (λ e. e.1) leaves
+pub leaves_hold : map (λ e. e.0) leaves ≡ map (λ e. e.1) leaves
 unfolding leaves
-leaves-hold = refl
+leaves_hold = refl
 
 -- what has children
 pub kinds : List (Seen × Seen)
@@ -111,9 +111,9 @@ kinds =
     ∷ (goal shapes 17, says (ascii "(exists v: int, v: int pattern  false)"))
     ∷ []
 
-pub kinds-hold : map (λ e. e.0) kinds ≡ map (λ e. e.1) kinds
+pub kinds_hold : map (λ e. e.0) kinds ≡ map (λ e. e.1) kinds
 unfolding kinds
-kinds-hold = refl
+kinds_hold = refl
 
 -- quantifiers, without variables and patterns, with one of the two, and with both
 pub quantifiers : List (Seen × Seen)
@@ -125,6 +125,6 @@ quantifiers =
     ∷ (goal quantified 8, says (ascii "(forall x: int, p: bool false)"))
     ∷ []
 
-pub quantifiers-hold : map (λ e. e.0) quantifiers ≡ map (λ e. e.1) quantifiers
+pub quantifiers_hold : map (λ e. e.0) quantifiers ≡ map (λ e. e.1) quantifiers
 unfolding quantifiers
-quantifiers-hold = refl
+quantifiers_hold = refl

@@ -104,9 +104,9 @@ answered = (
     )
     ∷ []
 
-pub answered-hold : map (λ e. e.0) answered ≡ map (λ e. e.1) answered
+pub answered_hold : map (λ e. e.0) answered ≡ map (λ e. e.1) answered
 unfolding answered
-answered-hold = refl
+answered_hold = refl
 
 -- the refused calls change nothing: the session, the text and the present are those of the list without them, before the first accepted
 -- call, after the ask, and at the end
@@ -142,9 +142,9 @@ traces =
     ∷ (ran sample mixed, at_end)
     ∷ []
 
-pub traces-hold : map (λ e. e.0) traces ≡ map (λ e. e.1) traces
+pub traces_hold : map (λ e. e.0) traces ≡ map (λ e. e.1) traces
 unfolding traces
-traces-hold = refl
+traces_hold = refl
 
 -- ---- THE STACK RULE'S WORDS, after each call of the list
 -- what the reader has, what the book gives for the present, and what a fresh session leaves that is brought straight there
@@ -214,15 +214,15 @@ levels_live =
     ∷ (read (ascii "a\n(push 1)\nb\n(check-sat)\n(pop 1)\n(get-model)\nb"), live (first (ascii "a" ∷ ascii "b" ∷ [])))
     ∷ []
 
-pub live-hold : map (λ e. e.0) levels_live ≡ map (λ e. e.1) levels_live
+pub live_hold : map (λ e. e.0) levels_live ≡ map (λ e. e.1) levels_live
 unfolding levels_live
-live-hold = refl
+live_hold = refl
 
 -- demand 2: the bodies on the state with sets, kept from call to call, send the same
 pub sent : List (Text × Text)
 unfolding everything books hosts move ask reply model failed good mixed text2 text3 asked3 asked2 at_end
 sent = (script (do_all sample (map calls good)).sent, at_end.text) ∷ (script (do_all sample (map calls mixed)).sent, at_end.text) ∷ []
 
-pub sent-hold : map (λ e. e.0) sent ≡ map (λ e. e.1) sent
+pub sent_hold : map (λ e. e.0) sent ≡ map (λ e. e.1) sent
 unfolding sent
-sent-hold = refl
+sent_hold = refl

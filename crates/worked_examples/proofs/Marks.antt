@@ -15,7 +15,7 @@ use Rattle.book.specs.Book.{Book, terms}
 use Rattle.book_forest.specs.Forest.{reference, all_smaller, no_twice, is_forest}
 use Rattle.book_forest.specs.Marks.{is_marked, set_mark, room, can_mark, all_marked}
 use Rattle.book_test.specs.BookTest.{book_test}
-use Rattle.worked_examples.proofs.IntegerBooks.{integer_book, node_reference, answer_of, refers, integer-test}
+use Rattle.worked_examples.proofs.IntegerBooks.{integer_book, node_reference, answer_of, refers, integer_test}
 
 -- ---- on the least scratch, with no mark yet
 unmarked : List ℕ
@@ -47,9 +47,9 @@ marking =
     ∷ (can_mark_all (up_to 0 1024), true)
     ∷ []
 
-pub marking-holds : map (λ e. e.0) marking ≡ map (λ e. e.1) marking
+pub marking_holds : map (λ e. e.0) marking ≡ map (λ e. e.1) marking
 unfolding marking
-marking-holds = refl
+marking_holds = refl
 
 pub bytes : List (List ℕ × List ℕ)
 unfolding unmarked marks has_bit with_bit has_number with_number set_mark all_marked up_to
@@ -62,9 +62,9 @@ bytes =
     ∷ (marks (up_to 0 1024), replicate 128 255)
     ∷ []
 
-pub bytes-hold : map (λ e. e.0) bytes ≡ map (λ e. e.1) bytes
+pub bytes_hold : map (λ e. e.0) bytes ≡ map (λ e. e.1) bytes
 unfolding bytes
-bytes-hold = refl
+bytes_hold = refl
 
 -- ---- in a book: as many Integers as there can be, and two contexts that refer to t and to u
 abbrev pair : (t u : ℕ) → ℕ → ℕ
@@ -88,20 +88,20 @@ module _ (t u : ℕ) (t-known : t < terms.most) (u-known : u < terms.most) where
       by false = refl
 
   -- 5 exactly if it is one term
-  pub pair-test : book_test (pair_book t u) ≡ answer_of (not (eqb t u)) true
-  pair-test = integer-test terms.most 2 (pair t u) (omega arith) (omega arith) known forest
+  pub pair_test : book_test (pair_book t u) ≡ answer_of (not (eqb t u)) true
+  pair_test = integer_test terms.most 2 (pair t u) (omega arith) (omega arith) known forest
 
 pub one_byte : book_test (pair_book 1022 1023) ≡ accepted tt
-one_byte = pair-test 1022 1023 (omega arith) (omega arith)
+one_byte = pair_test 1022 1023 (omega arith) (omega arith)
 
-pub last-twice : book_test (pair_book 1023 1023) ≡ refused 5
-last-twice = pair-test 1023 1023 (omega arith) (omega arith)
+pub last_twice : book_test (pair_book 1023 1023) ≡ refused 5
+last_twice = pair_test 1023 1023 (omega arith) (omega arith)
 
 pub first_byte : book_test (pair_book 0 7) ≡ accepted tt
-first_byte = pair-test 0 7 (omega arith) (omega arith)
+first_byte = pair_test 0 7 (omega arith) (omega arith)
 
-pub first-twice : book_test (pair_book 0 0) ≡ refused 5
-first-twice = pair-test 0 0 (omega arith) (omega arith)
+pub first_twice : book_test (pair_book 0 0) ≡ refused 5
+first_twice = pair_test 0 0 (omega arith) (omega arith)
 
-pub next-byte : book_test (pair_book 7 8) ≡ accepted tt
-next-byte = pair-test 7 8 (omega arith) (omega arith)
+pub next_byte : book_test (pair_book 7 8) ≡ accepted tt
+next_byte = pair_test 7 8 (omega arith) (omega arith)

@@ -93,6 +93,6 @@ negatives =
     ∷ (tagged (2 ^ 64 - 1), print (shows 20 (ascii "18446744073709551615")))
     ∷ []
 
-pub negatives-hold : map (λ e. e.0) negatives ≡ map (λ e. e.1) negatives
+pub negatives_hold : map (λ e. e.0) negatives ≡ map (λ e. e.1) negatives
 unfolding negatives
-negatives-hold = refl
+negatives_hold = refl

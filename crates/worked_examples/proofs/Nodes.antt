@@ -68,9 +68,9 @@ positions =
     ∷ (test sample (bytes32 (3 ∷ 2 ∷ 1 ∷ [])), pass)
     ∷ []
 
-pub positions-hold : map (λ e. e.0) positions ≡ map (λ e. e.1) positions
+pub positions_hold : map (λ e. e.0) positions ≡ map (λ e. e.1) positions
 unfolding positions
-positions-hold = refl
+positions_hold = refl
 
 -- ---- REFUSALS
 pub refusals : List (NodesCalled × NodesCalled)
@@ -100,6 +100,6 @@ refusals =
     )
     ∷ []
 
-pub refusals-hold : map (λ e. e.0) refusals ≡ map (λ e. e.1) refusals
+pub refusals_hold : map (λ e. e.0) refusals ≡ map (λ e. e.1) refusals
 unfolding refusals
-refusals-hold = refl
+refusals_hold = refl

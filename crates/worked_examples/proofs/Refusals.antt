@@ -113,9 +113,9 @@ fields =
     ∷ (book_test (one contexts 1 0 99), refused 4)
     ∷ []
 
-pub fields-hold : map (λ e. e.0) fields ≡ map (λ e. e.1) fields
+pub fields_hold : map (λ e. e.0) fields ≡ map (λ e. e.1) fields
 unfolding fields
-fields-hold = refl
+fields_hold = refl
 
 -- ---- REFUSALS 2 AND 3
 -- a book of one section: so many records, all 0
@@ -173,9 +173,9 @@ contents =
     ∷ (book_test (only lists 2048), ok)
     ∷ []
 
-pub contents-hold : map (λ e. e.0) contents ≡ map (λ e. e.1) contents
+pub contents_hold : map (λ e. e.0) contents ≡ map (λ e. e.1) contents
 unfolding contents
-contents-hold = refl
+contents_hold = refl
 
 -- ---- REFUSAL 5, AND THE ORDER OF 4 AND 5
 -- the good book, with other numbers in two fields, or three
@@ -215,9 +215,9 @@ forests =
     ∷ (book_test (two terms 6 1 6 contexts 1 2 3 ++ (0 ∷ [])), refused 2)
     ∷ []
 
-pub forests-hold : map (λ e. e.0) forests ≡ map (λ e. e.1) forests
+pub forests_hold : map (λ e. e.0) forests ≡ map (λ e. e.1) forests
 unfolding forests
-forests-hold = refl
+forests_hold = refl
 
 -- ---- REFUSAL 28
 -- the good book, whose name 0 has two letters
@@ -270,9 +270,9 @@ names28 =
     ∷ (book_test (two types 0 0 1 contexts 1 2 3), refused 4)
     ∷ []
 
-pub names28-hold : map (λ e. e.0) names28 ≡ map (λ e. e.1) names28
+pub names28_hold : map (λ e. e.0) names28 ≡ map (λ e. e.1) names28
 unfolding names28
-names28-hold = refl
+names28_hold = refl
 
 -- ---- THE CALL book test: the answer and the scratch. R 18
 tested : Book → BookTested
@@ -296,6 +296,6 @@ calls =
     ∷ (book_test_call (one contexts 1 1 9) (replicate 1024 0x55), record { answer = refused 5; scratch = replicate 1024 0 })
     ∷ []
 
-pub calls-hold : map (λ e. e.0) calls ≡ map (λ e. e.1) calls
+pub calls_hold : map (λ e. e.0) calls ≡ map (λ e. e.1) calls
 unfolding calls
-calls-hold = refl
+calls_hold = refl

@@ -82,6 +82,6 @@ searches =
     ∷ (for 3 node_levels, nowhere 6)
     ∷ []
 
-pub searches-hold : map (λ e. e.0) searches ≡ map (λ e. e.1) searches
+pub searches_hold : map (λ e. e.0) searches ≡ map (λ e. e.1) searches
 unfolding searches
-searches-hold = refl
+searches_hold = refl

@@ -75,9 +75,9 @@ replies =
     ∷ (called sample (at 3 18 Model) (move_to (host 0 0) 3), refuses 0 0 (at 3 18 Model) 21)
     ∷ []
 
-pub replies-hold : map (λ e. e.0) replies ≡ map (λ e. e.1) replies
+pub replies_hold : map (λ e. e.0) replies ≡ map (λ e. e.1) replies
 unfolding replies
-replies-hold = refl
+replies_hold = refl
 
 -- ---- SESSIONS THAT NO FRESH ONE COMES TO
 -- a move to the root, with room for two pops
@@ -127,9 +127,9 @@ strangers =
     ∷ (called [] (at 4 0 Nothing) (move_to (host 16 0) 4), refuses 16 0 (at 4 0 Nothing) 2)
     ∷ []
 
-pub strangers-hold : map (λ e. e.0) strangers ≡ map (λ e. e.1) strangers
+pub strangers_hold : map (λ e. e.0) strangers ≡ map (λ e. e.1) strangers
 unfolding strangers
-strangers-hold = refl
+strangers_hold = refl
 
 -- ---- THE SAME ON BYTE IMAGES: kind 2, node, goal, what is owed, and the levels
 image : (kind node goal owed : ℕ) → List ℕ
@@ -163,6 +163,6 @@ images =
     ∷ (unsat narrow, stays 20 narrow)
     ∷ []
 
-pub images-hold : map (λ e. e.0) images ≡ map (λ e. e.1) images
+pub images_hold : map (λ e. e.0) images ≡ map (λ e. e.1) images
 unfolding images
-images-hold = refl
+images_hold = refl

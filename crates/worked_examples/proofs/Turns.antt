@@ -64,6 +64,6 @@ turns =
     ∷ (narrowed_on_image [] dirty (wide 2 3 0 0) (blank 1616), refuses 1616 2)
     ∷ []
 
-pub turns-hold : map (λ e. e.0) turns ≡ map (λ e. e.1) turns
+pub turns_hold : map (λ e. e.0) turns ≡ map (λ e. e.1) turns
 unfolding turns
-turns-hold = refl
+turns_hold = refl

@@ -7,11 +7,11 @@ use mathlib.Core.List.{List, [], ◌∷◌, ◌++◌, append_assoc}
 use lib.ListN.{length, length-append, get_or-append}
 use lib.Seq.{get_or_at}
 use Rattle.basics.specs.Text.{Text}
-use Rattle.basics.proofs.Texts.{same-eq}
+use Rattle.basics.proofs.Texts.{same_eq}
 use Rattle.book.specs.Book.{Book}
 use Rattle.name_search.specs.Names.{position, texts}
 use Rattle.name_search.proofs.Position.{position_some}
-use Rattle.name_search.proofs.Searching.{texts-length}
+use Rattle.name_search.proofs.Searching.{texts_length}
 use Rattle.new_records.specs.Naming.{named_by, named, equals, probe_named, equals_named, trace_named}
 use Rattle.writer_bodies.proofs.NewTexts.{At}
 
@@ -30,13 +30,13 @@ module _ (b : Book) (t : Text) (before : List Text) where
   named-at = by (position t (texts b ++ before)) refl
     where
       by : (o : Option ℕ) → position t (texts b ++ before) ≡ o → At t (texts b ++ (named_by b t before o).texts) (named_by b t before o).number
-      by none e = at-end t (texts b) before (omega (arith, texts-length b))
-      by (some n) e = let f = position_some t (texts b ++ before) n e in record { below = f.below; here = same-eq _ t f.here }
+      by none e = at-end t (texts b) before (omega (arith, texts_length b))
+      by (some n) e = let f = position_some t (texts b ++ before) n e in record { below = f.below; here = same_eq _ t f.here }
 
   -- the names before it stay where they are
-  pub named-keeps : {u : Text} {n : ℕ} → At u (texts b ++ before) n → At u (texts b ++ (named b t before).texts) n
+  pub named_keeps : {u : Text} {n : ℕ} → At u (texts b ++ before) n → At u (texts b ++ (named b t before).texts) n
   unfolding named named_by
-  named-keeps {u} {n} a = by (position t (texts b ++ before))
+  named_keeps {u} {n} a = by (position t (texts b ++ before))
     where
       by : (o : Option ℕ) → At u (texts b ++ (named_by b t before o).texts) n
       by none = subst (λ (xs : List Text). At u xs n) (append_assoc (texts b) before (t ∷ [])) (at_more (t ∷ []) a)
@@ -44,27 +44,27 @@ module _ (b : Book) (t : Text) (before : List Text) where
 
 module _ (b : Book) (probe : Text) where
   -- a name that stands when `=` does, stands when the trace does
-  trace-keeps : (trace : Option Text) {u : Text} {n : ℕ} → At u (texts b ++ (equals_named b probe).texts) n → At u (texts b ++ (trace_named b probe trace).texts) n
+  trace_keeps : (trace : Option Text) {u : Text} {n : ℕ} → At u (texts b ++ (equals_named b probe).texts) n → At u (texts b ++ (trace_named b probe trace).texts) n
   unfolding trace_named
-  trace-keeps none a = a
-  trace-keeps (some t) a = named-keeps b t (equals_named b probe).texts a
+  trace_keeps none a = a
+  trace_keeps (some t) a = named_keeps b t (equals_named b probe).texts a
 
-  probe-first : At probe (texts b ++ (equals_named b probe).texts) (probe_named b probe).number
+  probe_first : At probe (texts b ++ (equals_named b probe).texts) (probe_named b probe).number
   unfolding probe_named equals_named
-  probe-first = named-keeps b equals (probe_named b probe).texts (named-at b probe [])
+  probe_first = named_keeps b equals (probe_named b probe).texts (named-at b probe [])
 
-  pub probe-at : (trace : Option Text) → At probe (texts b ++ (trace_named b probe trace).texts) (probe_named b probe).number
-  probe-at trace = trace-keeps trace probe-first
+  pub probe_at : (trace : Option Text) → At probe (texts b ++ (trace_named b probe trace).texts) (probe_named b probe).number
+  probe_at trace = trace_keeps trace probe_first
 
-  pub equals-at : (trace : Option Text) → At equals (texts b ++ (trace_named b probe trace).texts) (equals_named b probe).number
+  pub equals_at : (trace : Option Text) → At equals (texts b ++ (trace_named b probe trace).texts) (equals_named b probe).number
   unfolding equals_named
-  equals-at trace = trace-keeps trace (named-at b equals (probe_named b probe).texts)
+  equals_at trace = trace_keeps trace (named-at b equals (probe_named b probe).texts)
 
   -- the trace given, or else the probe's name
-  pub trace-none : At probe (texts b ++ (trace_named b probe none).texts) (trace_named b probe none).number
+  pub trace_none : At probe (texts b ++ (trace_named b probe none).texts) (trace_named b probe none).number
   unfolding trace_named
-  trace-none = probe-first
+  trace_none = probe_first
 
-  pub trace-some : (t : Text) → At t (texts b ++ (trace_named b probe (some t)).texts) (trace_named b probe (some t)).number
+  pub trace_some : (t : Text) → At t (texts b ++ (trace_named b probe (some t)).texts) (trace_named b probe (some t)).number
   unfolding trace_named
-  trace-some t = named-at b t (equals_named b probe).texts
+  trace_some t = named-at b t (equals_named b probe).texts

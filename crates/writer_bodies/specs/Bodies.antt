@@ -1,5 +1,5 @@
 -- RSolver.dfy's Extend, ExtendWithEquality, Record and RecordTracePoint, in its order and by its names, with capitals, since the writer's
--- calls have the others; and that an accepted call appends just what they return. Proved in proofs/Made.antt: makes-context.
+-- calls have the others; and that an accepted call appends just what they return. Proved in proofs/Made.antt: makes_context.
 use Rattle.std.specs.Prelude.{ℕ, ◌^◌, ◌<◌, ◌≡◌, true}
 use Rattle.std.proofs.Math.Option.{Option, none, some}
 use mathlib.Core.List.{◌++◌, Option-to_list}

@@ -1,4 +1,4 @@
--- What the calls that make no context append: the name, constant or term that was handed over. Proved in proofs/Made.antt: makes-record.
+-- What the calls that make no context append: the name, constant or term that was handed over. Proved in proofs/Made.antt: makes_record.
 use Rattle.std.specs.Prelude.{ℕ, ◌+◌, ◌*◌, ◌^◌, ◌<◌, ◌≡◌, not, List, map, eqb}
 use Rattle.basics.specs.Basics.{int64}
 use Rattle.book.specs.RExpr.{RExpr, BuiltInOperator, UserDefinedFunction, Boolean, Integer, CustomLiteral, Id, FuncAppl, IfThenElse, LetExpr, QuantifierExpr}

@@ -1,6 +1,6 @@
 use native.Mathlib.Omega.{arith}
 use mathlib.Core.Path.{◌∙◌}
-use Rattle.basics.proofs.Loops.{all_none, all_more, all-stop, all_done, all-places}
+use Rattle.basics.proofs.Loops.{all_none, all_more, all_stop, all_done, all_places}
 use Rattle.book.specs.Book.{letters, sections}
 use Rattle.book_contents.specs.Contents.{count_fits, counts_fit}
 use borrow.Author.Rules.{rules}
@@ -14,8 +14,8 @@ loop-n-init c = (search rules, all_none _)
 pub returns-then-not-count_fits : goal.returns-then-not-count_fits
 unfolding counts_fit
 returns-then-not-count_fits c =
-    all-stop (fits_at c.args.book.now) 10 c.loop-n.n c.count_fits.ensures (not_from_false _ c.if-not-count_fits.true) (omega arith)
-    ∙ all-places sections (count_fits _) letters
+    all_stop (fits_at c.args.book.now) 10 c.loop-n.n c.count_fits.ensures (not_from_false _ c.if-not-count_fits.true) (omega arith)
+    ∙ all_places sections (count_fits _) letters
 
 pub loop-n-preserved : goal.loop-n-preserved
 loop-n-preserved c =
@@ -23,4 +23,4 @@ loop-n-preserved c =
 
 pub returns : goal.returns
 unfolding counts_fit
-returns c = all_done _ 10 _ c.loop-n.invariant.1 (omega arith) ∙ all-places sections (count_fits _) letters
+returns c = all_done _ 10 _ c.loop-n.invariant.1 (omega arith) ∙ all_places sections (count_fits _) letters

@@ -2,7 +2,7 @@ use native.Mathlib.Nat.{mul-le-mul_right}
 use native.Mathlib.Omega.{arith}
 use mathlib.Core.Path.{refl, sym, ◌∙◌}
 use Rattle.book.proofs.Sections.{tabled}
-use Rattle.book_contents.proofs.Order.{order-stop, order-more, order-done}
+use Rattle.book_contents.proofs.Order.{order_stop, order_more, order_done}
 -- the place grows by at most 28 bytes times a 32-bit count for each section
 use borrow.Author.Rules.{rules}
 use Rattle.book_contents.proofs.in_order.Goals as goal
@@ -12,7 +12,7 @@ loop-n-init c = (search rules, search rules, refl)
 
 pub returns-then-offset-at : goal.returns-then-offset-at
 returns-then-offset-at c =
-    sym (order-stop c.args.book.now c.loop-n.at c.loop-n.n c.loop-n-test.true (λ e. c.if-offset-at.true (c.offset.ensures.is ∙ e)))
+    sym (order_stop c.args.book.now c.loop-n.at c.loop-n.n c.loop-n-test.true (λ e. c.if-offset-at.true (c.offset.ensures.is ∙ e)))
     ∙ c.loop-n.invariant.2
 
 pub overflow_mul-at : goal.overflow_mul-at
@@ -25,8 +25,8 @@ pub loop-n-preserved : goal.loop-n-preserved
 loop-n-preserved c = (
   search rules,
   omega (arith, mul-le-mul_right c.count.result (tabled c.loop-n.n c.loop-n-test.true).narrow),
-  rw c.count.ensures.is (order-more c.args.book.now c.loop-n.at c.loop-n.n c.loop-n-test.true (sym c.offset.ensures.is ∙ c.if-offset-at.false)) ∙ c.loop-n.invariant.2,
+  rw c.count.ensures.is (order_more c.args.book.now c.loop-n.at c.loop-n.n c.loop-n-test.true (sym c.offset.ensures.is ∙ c.if-offset-at.false)) ∙ c.loop-n.invariant.2,
 )
 
 pub returns : goal.returns
-returns c = sym (order-done c.args.book.now c.loop-n.at c.loop-n.n (omega arith)) ∙ c.loop-n.invariant.2
+returns c = sym (order_done c.args.book.now c.loop-n.at c.loop-n.n (omega arith)) ∙ c.loop-n.invariant.2

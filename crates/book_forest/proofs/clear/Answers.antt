@@ -1,4 +1,4 @@
-use Rattle.book_forest.proofs.Marking.{fill-all}
+use Rattle.book_forest.proofs.Marking.{fill_all}
 use lib.ListN.{length-set}
 use borrow.Author.Fill.{fill_none, fill_more}
 use mathlib.Core.Path.{refl}
@@ -13,4 +13,4 @@ pub loop-i-preserved : goal.loop-i-preserved
 loop-i-preserved c = (search rules, simp length-set c.loop-i.invariant.1, rw c.loop-i.invariant.2 (fill_more c.loop-i.i 0 c.args.scratch.now (omega arith)))
 
 pub returns : goal.returns
-returns c = fill-all c.loop-i.i c.args.scratch.now _ c.loop-i.invariant.2 (omega arith)
+returns c = fill_all c.loop-i.i c.args.scratch.now _ c.loop-i.invariant.2 (omega arith)

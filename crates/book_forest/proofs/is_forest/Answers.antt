@@ -1,4 +1,4 @@
-use Rattle.book_forest.proofs.Right.{forest-right}
+use Rattle.book_forest.proofs.Right.{forest_right}
 use Rattle.book_forest.proofs.Marking.{after}
 use Rattle.book_forest.specs.Forest.{references}
 use lib.ListN.{replicate}
@@ -10,4 +10,4 @@ pub returns : goal.returns
 unfolding references
 returns c =
     let marks = after _ _ (after _ _ c.mark_terms.ensures c.mark_axioms.ensures) c.mark_contexts.ensures in
-    (marks.is ∙ forest-right _ _ c.requires.3 c.requires.2, c.clear.ensures ∙ ap (λ (n : ℕ). replicate n 0) marks.long)
+    (marks.is ∙ forest_right _ _ c.requires.3 c.requires.2, c.clear.ensures ∙ ap (λ (n : ℕ). replicate n 0) marks.long)

@@ -1,4 +1,4 @@
-use Rattle.book_forest.proofs.Children.{application-children, application-ends, no-children}
+use Rattle.book_forest.proofs.Children.{application_children, application_ends, no_children}
 use Rattle.book_forest.proofs.Marking.{nothing}
 use Rattle.book_forest.specs.Forest.{term_references}
 use Rattle.book.specs.Decode.{kind_of}
@@ -12,8 +12,8 @@ mark_quantifier-requires c = (c.requires.0, c.requires.1, c.requires.2, sym c.fi
 
 pub mark_range-requires : goal.mark_range-requires
 mark_range-requires c = (
-  c.requires.0.lists-laid,
-  omega (arith, c.field.ensures.is, c.field-in-4.ensures.is, application-ends c.args.book.now c.args.t c.requires.1 c.requires.2 c.field-kind.result c.field-kind.ensures.is (omega arith) (omega arith)),
+  c.requires.0.lists_laid,
+  omega (arith, c.field.ensures.is, c.field-in-4.ensures.is, application_ends c.args.book.now c.args.t c.requires.1 c.requires.2 c.field-kind.result c.field-kind.ensures.is (omega arith) (omega arith)),
   search rules,
 )
 
@@ -31,15 +31,15 @@ returns-in-8 c = rw (sym c.field-kind.ensures.is ∙ c.in-8.is) c.mark_quantifie
 
 pub returns-in-4 : goal.returns-in-4
 returns-in-4 c =
-    rw (← application-children c.args.book.now c.args.t c.field-kind.result c.field-kind.ensures.is (omega arith) (omega arith), ← c.field.ensures.is, ← c.field-in-4.ensures.is)
+    rw (← application_children c.args.book.now c.args.t c.field-kind.result c.field-kind.ensures.is (omega arith) (omega arith), ← c.field.ensures.is, ← c.field-in-4.ensures.is)
     c.mark_range.ensures
 
 pub returns-in_default : goal.returns-in_default
 returns-in_default c =
     let r = c.in_default.in_default-own.rest in
-    rw (no-children c.args.book.now c.args.t c.field-kind.result c.field-kind.ensures.is (λ e. omega arith) (λ e. omega arith) r.0.0.1 r.0.1 r.1) (nothing _)
+    rw (no_children c.args.book.now c.args.t c.field-kind.result c.field-kind.ensures.is (λ e. omega arith) (λ e. omega arith) r.0.0.1 r.0.1 r.1) (nothing _)
 
 pub returns-in_default-2 : goal.returns-in_default-2
 returns-in_default-2 c =
     let r = c.in_default.in_default-own.rest in
-    rw (no-children c.args.book.now c.args.t c.field-kind.result c.field-kind.ensures.is (λ e. omega arith) (λ e. omega arith) r.0.0.1 r.0.1 r.1) (nothing _)
+    rw (no_children c.args.book.now c.args.t c.field-kind.result c.field-kind.ensures.is (λ e. omega arith) (λ e. omega arith) r.0.0.1 r.0.1 r.1) (nothing _)

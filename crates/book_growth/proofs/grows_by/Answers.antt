@@ -1,14 +1,14 @@
 use native.Mathlib.Omega.{arith}
 use Rattle.book.proofs.Sections.{tabled}
-use Rattle.book_layout.proofs.Coded.{contents-end, size-there}
+use Rattle.book_layout.proofs.Coded.{contents_end, size_there}
 use Rattle.book_growth.proofs.Within.{within_by}
 use Rattle.book_growth.proofs.grows_by.Goals as goal
 
 pub nonzero_div-result : goal.nonzero_div-result
-nonzero_div-result c = size-there c.requires.0
+nonzero_div-result c = size_there c.requires.0
 
 pub count-requires : goal.count-requires
-count-requires c = (c.requires.0, contents-end c.requires.0 c.requires.1)
+count-requires c = (c.requires.0, contents_end c.requires.0 c.requires.1)
 
 pub overflow_sub-result : goal.overflow_sub-result
 overflow_sub-result c = omega (arith, c.count.ensures.is, c.requires.1.few, (tabled c.args.section c.requires.0).most)

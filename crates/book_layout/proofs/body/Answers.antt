@@ -1,12 +1,12 @@
 use native.Mathlib.Omega.{arith}
-use Rattle.book_layout.proofs.Coded.{contents-end, body_end, body-part}
+use Rattle.book_layout.proofs.Coded.{contents_end, body_end, body-part}
 use Rattle.book_layout.proofs.body.Goals as goal
 
 pub offset-start-requires : goal.offset-start-requires
-offset-start-requires c = (c.requires.0, contents-end c.requires.0 c.requires.1)
+offset-start-requires c = (c.requires.0, contents_end c.requires.0 c.requires.1)
 
 pub count-requires : goal.count-requires
-count-requires c = (c.requires.0, contents-end c.requires.0 c.requires.1)
+count-requires c = (c.requires.0, contents_end c.requires.0 c.requires.1)
 
 pub overflow_mul-end : goal.overflow_mul-end
 overflow_mul-end c = omega (arith, body_end c.requires.0 c.requires.1 c.offset-start.ensures c.count.ensures)

@@ -1,5 +1,5 @@
-use Rattle.basics.proofs.Places.{at-then}
+use Rattle.basics.proofs.Places.{at_then}
 use Rattle.book_layout.proofs.put_entry.Goals as goal
 
 pub returns : goal.returns
-returns c = at-then c.well_formed.1.1.1.0.0 c.put_word-next.ensures c.put_word.ensures
+returns c = at_then c.well_formed.1.1.1.0.0 c.put_word-next.ensures c.put_word.ensures

@@ -1,5 +1,5 @@
-use Rattle.basics.proofs.Places.{at-then, at-as}
+use Rattle.basics.proofs.Places.{at_then, at_as}
 use Rattle.book_layout.proofs.put_section.Goals as goal
 
 pub returns : goal.returns
-returns c = at-then c.well_formed.1.1.1.1.0.0 (at-as c.body.ensures c.put_at-next.ensures) c.put_at.ensures
+returns c = at_then c.well_formed.1.1.1.1.0.0 (at_as c.body.ensures c.put_at-next.ensures) c.put_at.ensures

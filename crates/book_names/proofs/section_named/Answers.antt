@@ -1,5 +1,5 @@
 use native.Mathlib.Omega.{arith}
-use Rattle.basics.proofs.Loops.{all_none, all_more, all-stop, all_done}
+use Rattle.basics.proofs.Loops.{all_none, all_more, all_stop, all_done}
 use Rattle.book_names.specs.Names.{section_named}
 use borrow.Author.Rules.{rules}
 use Rattle.std.proofs.lemmas.Bool.{not_from_false, not_from_true}
@@ -13,7 +13,7 @@ record_named-requires c = (c.requires.0, c.requires.1, c.requires.2, omega arith
 
 pub returns-then-not-record_named : goal.returns-then-not-record_named
 unfolding section_named
-returns-then-not-record_named c = all-stop _ _ _ c.record_named.ensures (not_from_false _ c.if-not-record_named.true) (omega arith)
+returns-then-not-record_named c = all_stop _ _ _ c.record_named.ensures (not_from_false _ c.if-not-record_named.true) (omega arith)
 
 pub loop-k-preserved : goal.loop-k-preserved
 loop-k-preserved c = (search rules, all_more _ _ c.loop-k.invariant.1 c.record_named.ensures (not_from_true _ c.if-not-record_named.false))

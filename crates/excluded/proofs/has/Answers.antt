@@ -1,6 +1,6 @@
-use Rattle.excluded.proofs.Sets.{bit-of}
+use Rattle.excluded.proofs.Sets.{bit_of}
 use mathlib.Core.Path.{◌∙◌}
 use Rattle.excluded.proofs.has.Goals as goal
 
 pub returns : goal.returns
-returns c = c.has_bit.ensures ∙ bit-of _ _
+returns c = c.has_bit.ensures ∙ bit_of _ _

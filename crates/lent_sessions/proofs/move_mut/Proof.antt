@@ -68,8 +68,8 @@ use Rattle.lent_sessions.proofs.move_mut.Code as code
 abbrev stayed : Stays (self.ended).signature.params (self.ended).kept
 stayed = (stay_ref (0 ∷ []) tt (plain (λ _. T.the_row)), (stay_dropped (shr_slice_of (1 ∷ []) tt (plain (λ _. u8))) yes, (gave_slice (2 ∷ []) tt (plain (λ _. u8)), (stay_dropped (plain (λ _. u32)) yes, (gave_slice (3 ∷ []) tt (plain (λ _. u8)), tt)))))
 
-abbrev core-of : {M : Type 1} {𝓤 : Ura M} (𝓛 : Logic 𝓤) (mem : Memory → SProp 𝓤) (run : Routine → Fun 𝓤) → Contract 𝓤
-core-of 𝓛 mem run = triple_of 𝓛 core.signature (core.spec 𝓛 mem run)
+abbrev core_of : {M : Type 1} {𝓤 : Ura M} (𝓛 : Logic 𝓤) (mem : Memory → SProp 𝓤) (run : Routine → Fun 𝓤) → Contract 𝓤
+core_of 𝓛 mem run = triple_of 𝓛 core.signature (core.spec 𝓛 mem run)
 
 abbrev sv : Session → Val
 sv = LL.val T.the_type T'.the_laws
@@ -90,10 +90,10 @@ module _ {M : Type 1} {𝓤 : Ura M} (𝓛 : Logic 𝓤) (at_mem : Memory → SP
   Post = (walk_of 𝓛 self.ended stayed (self.clauses 𝓛 at_mem run)).post (((κ0, (κ1, (κ2, (κ3, tt)))), (q0, (q1, (q2, (q3, tt)))), tt, a, vals), tt)
 
   exits : (r : Answer) (s' : Session) (sc' : List ℕ) (tx' : List ℕ) → Returned (called bk.now h (move_to (lent sc.now tx.now []) n)) (record { answer = r; session = s' }) tx' [] sc' → length sc' ≡ length sc.now → length tx' ≡ length tx.now → Is E.the_row r (EL.val E.the_type E'.the_laws r ∷ []) → ent 𝓤 (⋆ 𝓛 (‵ (flft κ0 q0) ∷ ‵ (flft κ1 q1) ∷ ‵ (flft κ2 q2) ∷ ‵ (flft κ3 q3) ∷ ‵ (fobs γ ((T.the_row).coded.code s')) ∷ ‵ (fbor κ0 (Body (mem T.the_row) b o γ)) ∷ ‵ (finally u8 sc.ghost_name sc') ∷ ‵ (finally u8 tx.ghost_name tx') ∷ [])) (Post (EL.val E.the_type E'.the_laws r))
-  exits r s' sc' tx' e l-sc l-tx is =
-      qed 𝓛 (‵ (flft κ0 q0) ∷ ‵ (flft κ1 q1) ∷ ‵ (flft κ2 q2) ∷ ‵ (flft κ3 q3) ∷ ‵ (fobs γ ((T.the_row).coded.code s')) ∷ ‵ (fbor κ0 (Body (mem T.the_row) b o γ)) ∷ ‵ (finally u8 sc.name sc') ∷ ‵ (finally u8 tx.name tx') ∷ []) ∵ suffices ! _ (ends_at 𝓛 self.ended stayed (self.clauses 𝓛 at_mem run) (((κ0, (κ1, (κ2, (κ3, tt)))), (q0, (q1, (q2, (q3, tt)))), tt, a, vals), tt) (EL.val E.the_type E'.the_laws r) r (s', (tt, (sc', (tt, (tx', tt))))) (tt, (tt, (l-sc, (tt, (l-tx, tt)))))) $ says ! e $ nothing ! $ move ! (4 ∷ 0 ∷ []) $ join ! $ move ! (3 ∷ 0 ∷ []) $ join ! $ move ! (2 ∷ 0 ∷ []) $ join ! $ move ! (1 ∷ 0 ∷ []) $ join ! $ frame ! $ nothing ! $ move ! (4 ∷ 0 ∷ []) $ fjoin ! $ nothing ! $ fjoin ! $ move ! (3 ∷ 0 ∷ []) $ fjoin ! $ nothing ! $ fjoin ! $ move ! (1 ∷ 2 ∷ []) $ feq_i ! (List Val) (vptr b o ∷ []) (vptr b o ∷ []) refl $ fjoin3 ! $ fjoin ! $ owned ! E.the_row (Is E.the_row) (EL.makes E.the_type E'.the_plain 𝓛) r _ is $ move ! (1 ∷ 0 ∷ []) $ done !
+  exits r s' sc' tx' e l_sc l_tx is =
+      qed 𝓛 (‵ (flft κ0 q0) ∷ ‵ (flft κ1 q1) ∷ ‵ (flft κ2 q2) ∷ ‵ (flft κ3 q3) ∷ ‵ (fobs γ ((T.the_row).coded.code s')) ∷ ‵ (fbor κ0 (Body (mem T.the_row) b o γ)) ∷ ‵ (finally u8 sc.name sc') ∷ ‵ (finally u8 tx.name tx') ∷ []) ∵ suffices ! _ (ends_at 𝓛 self.ended stayed (self.clauses 𝓛 at_mem run) (((κ0, (κ1, (κ2, (κ3, tt)))), (q0, (q1, (q2, (q3, tt)))), tt, a, vals), tt) (EL.val E.the_type E'.the_laws r) r (s', (tt, (sc', (tt, (tx', tt))))) (tt, (tt, (l_sc, (tt, (l_tx, tt)))))) $ says ! e $ nothing ! $ move ! (4 ∷ 0 ∷ []) $ join ! $ move ! (3 ∷ 0 ∷ []) $ join ! $ move ! (2 ∷ 0 ∷ []) $ join ! $ move ! (1 ∷ 0 ∷ []) $ join ! $ frame ! $ nothing ! $ move ! (4 ∷ 0 ∷ []) $ fjoin ! $ nothing ! $ fjoin ! $ move ! (3 ∷ 0 ∷ []) $ fjoin ! $ nothing ! $ fjoin ! $ move ! (1 ∷ 2 ∷ []) $ feq_i ! (List Val) (vptr b o ∷ []) (vptr b o ∷ []) refl $ fjoin3 ! $ fjoin ! $ owned ! E.the_row (Is E.the_row) (EL.makes E.the_type E'.the_plain 𝓛) r _ is $ move ! (1 ∷ 0 ∷ []) $ done !
 
-  module _ (C : Calls 𝓤 H) (Λ : Loops 𝓤 H) (fm : FmC 𝓤 H 𝓛.laws C) (known-core : Triple 𝓤 (C #moves·move-to) (core-of 𝓛 at_mem run)) where
+  module _ (C : Calls 𝓤 H) (Λ : Loops 𝓤 H) (fm : FmC 𝓤 H 𝓛.laws C) (known-core : Triple 𝓤 (C #moves·move-to) (core_of 𝓛 at_mem run)) where
     walk : Is (ShrSlice (named 1) κ1 u8) bk (slice_val bk.ref_ptr (length bk.now) ∷ []) → Room u8 (length sc.now) → n < 2 ^ 32 → Room u8 (length tx.now) → ent 𝓤 (on_entry 𝓛 self.signature (κ0, (κ1, (κ2, (κ3, tt)))) (q0, (q1, (q2, (q3, tt)))) a vals) (WpFn 𝓤 H C Λ code.function (vptr b o ∷ slice_val bk.ref_ptr (length bk.now) ∷ slice_val sc.ref_ptr (length sc.now) ∷ vint w32 n ∷ slice_val tx.ref_ptr (length tx.now) ∷ []) Post)
     walk is-bk room_Sc fits-n room-tx =
         qed 𝓛 ((‵ (flft κ0 q0) ⊛ ‵ (flft κ1 q1) ⊛ ‵ (flft κ2 q2) ⊛ ‵ (flft κ3 q3) ⊛ ‵ ftrue) ∷ ‵ (owns (MutRef (named 0) κ0 T.the_row ∷ ShrSlice (named 1) κ1 u8 ∷ MutSlice (named 2) κ2 u8 ∷ u32 ∷ MutSlice (named 3) κ3 u8 ∷ []) a vals) ∷ []) ∵ enter ! C Λ code.function (vptr b o ∷ slice_val bk.ref_ptr (length bk.now) ∷ slice_val sc.ref_ptr (length sc.now) ∷ vint w32 n ∷ slice_val tx.ref_ptr (length tx.now) ∷ []) _ $
@@ -117,8 +117,8 @@ module _ {M : Type 1} {𝓤 : Ura M} (𝓛 : Logic 𝓤) (at_mem : Memory → SP
         assigns ! (agg ! (and_then ! (load ! (from ! (stop !)) (look ! 12 refl)) (and_then ! (load ! (from ! (fld ! refl (stop !))) (look_in ! 30 (sub ! 1 refl (whole !)))) (no_more !)))) (from ! (stop !)) (init ! 10 refl ((tt, (tt, (record { fits = room-tx.0 }, tt))))) $
         -- `move_to`
         move ! (6 ∷ 5 ∷ 4 ∷ 9 ∷ 8 ∷ 7 ∷ []) $ group ! 6 $
-        use1 𝓛 (raw ((core-of 𝓛 at_mem run).pre (((κ1, (κ2, (κ3, tt))), (q1, (q2, (q3, tt))), tt, (h, (bk, ((record { ref_ptr = sc.ref_ptr; ghost_name = sc.ghost_name; now = sc.now }), (n, ((record { ref_ptr = tx.ref_ptr; ghost_name = tx.ghost_name; now = tx.now }), tt))))), (LL.val T.the_type T'.the_laws h ∷ [], (slice_val bk.ref_ptr (length bk.now) ∷ [], (slice_val sc.ref_ptr (length sc.now) ∷ [], (vint w32 n ∷ [], (slice_val tx.ref_ptr (length tx.now) ∷ [], tt)))))), tt))) (qed 𝓛 (‵ (flft κ1 q1) ∷ ‵ (flft κ2 q2) ∷ ‵ (flft κ3 q3) ∷ ‵ ((ShrSlice (named 0) κ1 u8).own_val bk (slice_val bk.ref_ptr (length bk.now) ∷ [])) ∷ ‵ ((MutSlice (named 1) κ2 u8).own_val (record { ref_ptr = sc.ref_ptr; ghost_name = sc.ghost_name; now = sc.now }) (slice_val sc.ref_ptr (length sc.now) ∷ [])) ∷ ‵ ((MutSlice (named 2) κ3 u8).own_val (record { ref_ptr = tx.ref_ptr; ghost_name = tx.ghost_name; now = tx.now }) (slice_val tx.ref_ptr (length tx.now) ∷ [])) ∷ []) ∵ nothing ! $ move ! (6 ∷ 0 ∷ []) $ fjoin ! $ owned ! u32 (Is u32) (uint_Makes 𝓛 w32) n _ ((refl, fits-n)) $ fjoin ! $ move ! (5 ∷ 0 ∷ []) $ fjoin ! $ move ! (4 ∷ 0 ∷ []) $ fjoin ! $ owned ! T.the_row (Is T.the_row) (LL.makes T.the_type T'.the_plain 𝓛) h _ is-h $ fjoin ! $ nothing ! $ move ! (4 ∷ 0 ∷ []) $ join ! $ move ! (3 ∷ 0 ∷ []) $ join ! $ move ! (2 ∷ 0 ∷ []) $ join ! $ join ! $ frame ! $ done !) $
-        calls_at ! fm (core-of 𝓛 at_mem run) known-core (((κ1, (κ2, (κ3, tt))), (q1, (q2, (q3, tt))), tt, (h, (bk, ((record { ref_ptr = sc.ref_ptr; ghost_name = sc.ghost_name; now = sc.now }), (n, ((record { ref_ptr = tx.ref_ptr; ghost_name = tx.ghost_name; now = tx.now }), tt))))), (LL.val T.the_type T'.the_laws h ∷ [], (slice_val bk.ref_ptr (length bk.now) ∷ [], (slice_val sc.ref_ptr (length sc.now) ∷ [], (vint w32 n ∷ [], (slice_val tx.ref_ptr (length tx.now) ∷ [], tt)))))), tt) (and_then ! (load ! (from ! (stop !)) (look ! 15 refl)) (and_then ! (load ! (from ! (stop !)) (look ! 31 refl)) (and_then ! (load ! (from ! (stop !)) (look ! 9 refl)) (and_then ! (load ! (from ! (stop !)) (look ! 27 refl)) (and_then ! (load ! (from ! (stop !)) (look ! 5 refl)) (no_more !)))))) (λ w1.
+        use1 𝓛 (raw ((core_of 𝓛 at_mem run).pre (((κ1, (κ2, (κ3, tt))), (q1, (q2, (q3, tt))), tt, (h, (bk, ((record { ref_ptr = sc.ref_ptr; ghost_name = sc.ghost_name; now = sc.now }), (n, ((record { ref_ptr = tx.ref_ptr; ghost_name = tx.ghost_name; now = tx.now }), tt))))), (LL.val T.the_type T'.the_laws h ∷ [], (slice_val bk.ref_ptr (length bk.now) ∷ [], (slice_val sc.ref_ptr (length sc.now) ∷ [], (vint w32 n ∷ [], (slice_val tx.ref_ptr (length tx.now) ∷ [], tt)))))), tt))) (qed 𝓛 (‵ (flft κ1 q1) ∷ ‵ (flft κ2 q2) ∷ ‵ (flft κ3 q3) ∷ ‵ ((ShrSlice (named 0) κ1 u8).own_val bk (slice_val bk.ref_ptr (length bk.now) ∷ [])) ∷ ‵ ((MutSlice (named 1) κ2 u8).own_val (record { ref_ptr = sc.ref_ptr; ghost_name = sc.ghost_name; now = sc.now }) (slice_val sc.ref_ptr (length sc.now) ∷ [])) ∷ ‵ ((MutSlice (named 2) κ3 u8).own_val (record { ref_ptr = tx.ref_ptr; ghost_name = tx.ghost_name; now = tx.now }) (slice_val tx.ref_ptr (length tx.now) ∷ [])) ∷ []) ∵ nothing ! $ move ! (6 ∷ 0 ∷ []) $ fjoin ! $ owned ! u32 (Is u32) (uint_Makes 𝓛 w32) n _ ((refl, fits-n)) $ fjoin ! $ move ! (5 ∷ 0 ∷ []) $ fjoin ! $ move ! (4 ∷ 0 ∷ []) $ fjoin ! $ owned ! T.the_row (Is T.the_row) (LL.makes T.the_type T'.the_plain 𝓛) h _ is-h $ fjoin ! $ nothing ! $ move ! (4 ∷ 0 ∷ []) $ join ! $ move ! (3 ∷ 0 ∷ []) $ join ! $ move ! (2 ∷ 0 ∷ []) $ join ! $ join ! $ frame ! $ done !) $
+        calls_at ! fm (core_of 𝓛 at_mem run) known-core (((κ1, (κ2, (κ3, tt))), (q1, (q2, (q3, tt))), tt, (h, (bk, ((record { ref_ptr = sc.ref_ptr; ghost_name = sc.ghost_name; now = sc.now }), (n, ((record { ref_ptr = tx.ref_ptr; ghost_name = tx.ghost_name; now = tx.now }), tt))))), (LL.val T.the_type T'.the_laws h ∷ [], (slice_val bk.ref_ptr (length bk.now) ∷ [], (slice_val sc.ref_ptr (length sc.now) ∷ [], (vint w32 n ∷ [], (slice_val tx.ref_ptr (length tx.now) ∷ [], tt)))))), tt) (and_then ! (load ! (from ! (stop !)) (look ! 15 refl)) (and_then ! (load ! (from ! (stop !)) (look ! 31 refl)) (and_then ! (load ! (from ! (stop !)) (look ! 9 refl)) (and_then ! (load ! (from ! (stop !)) (look ! 27 refl)) (and_then ! (load ! (from ! (stop !)) (look ! 5 refl)) (no_more !)))))) (λ w1.
         use1 𝓛 (later (some (λ (r : Called). ((‵ (flft κ1 q1) ⊛ ‵ (flft κ2 q2) ⊛ ‵ (flft κ3 q3) ⊛ ‵ ftrue) ⊛ ‵ ((P.the_row).own_val r (w1 ∷ []))) ⊛ raw (ensured 𝓛 core.ended (core.clauses 𝓛 at_mem run) (κ1, (κ2, (κ3, tt))) (h, (bk, ((record { ref_ptr = sc.ref_ptr; ghost_name = sc.ghost_name; now = sc.now }), (n, ((record { ref_ptr = tx.ref_ptr; ghost_name = tx.ghost_name; now = tx.now }), tt))))) tt r)))) (id⊢ 𝓤 _) $ await ! tt $ pick ! (λ r1.
         split ! $ move ! (1 ∷ []) $ use1 𝓛 (some (λ (zs : (Unit {0} × (Unit {0} × (List ℕ × (Unit {0} × (List ℕ × Unit {0})))))). ‵ (lasts core.ended (κ1, (κ2, (κ3, tt))) (h, (bk, ((record { ref_ptr = sc.ref_ptr; ghost_name = sc.ghost_name; now = sc.now }), (n, ((record { ref_ptr = tx.ref_ptr; ghost_name = tx.ghost_name; now = tx.now }), tt))))) zs) ⊛ raw (fact 𝓤 (Returned (called bk.now h (move_to (lent sc.now tx.now []) n)) r1 zs.1.1.1.1.0 [] zs.1.1.0)))) (id⊢ 𝓤 _) $ pick ! (λ zs1.
         split ! $ move ! (1 ∷ []) $ heard ! (Returned (called bk.now h (move_to (lent sc.now tx.now []) n)) r1 zs1.1.1.1.1.0 [] zs1.1.1.0) (λ e1. fsplit ! $ drop ! $ fsplit ! $
@@ -146,18 +146,18 @@ module _ {M : Type 1} {𝓤 : Ura M} (𝓛 : Logic 𝓤) (at_mem : Memory → SP
 module _ {M : Type 1} {𝓤 : Ura M} (𝓛 : Logic 𝓤) (at_mem : Memory → SProp 𝓤) (run : Routine → Fun 𝓤) where
   open 𝓛 use {H}
 
-  walks : (C : Calls 𝓤 H) (Λ : Loops 𝓤 H) → FmC 𝓤 H 𝓛.laws C → Triple 𝓤 (C #moves·move-to) (core-of 𝓛 at_mem run) → Walks 𝓛 self.ended stayed (WpFn 𝓤 H C Λ code.function) (self.clauses 𝓛 at_mem run)
+  walks : (C : Calls 𝓤 H) (Λ : Loops 𝓤 H) → FmC 𝓤 H 𝓛.laws C → Triple 𝓤 (C #moves·move-to) (core_of 𝓛 at_mem run) → Walks 𝓛 self.ended stayed (WpFn 𝓤 H C Λ code.function) (self.clauses 𝓛 at_mem run)
   walks C Λ fm known-core = walked 𝓛 self.ended stayed (self.clauses 𝓛 at_mem run) (WpFn 𝓤 H C Λ code.function) (λ κs. (mut_vals, (shr_slice_vals, (mut_slice_vals, (uint_vals w32, (mut_slice_vals, tt)))))) (λ κs. (mut_Tells (named 0) κs.0 T.the_row, (shr_slice_Tells (named 1) κs.1.0 u8, (mut_slice_Tells (named 2) κs.1.1.0 u8, (uint_Tells w32, (mut_slice_Tells (named 3) κs.1.1.1.0 u8, tt))))))
       (λ κs qs bounds a g are. via 𝓤 _ (fst∗ 𝓤 _ (emp 𝓤)) (walk 𝓛 at_mem run κs.0 κs.1.0 κs.1.1.0 κs.1.1.1.0 qs.0 qs.1.0 qs.1.1.0 qs.1.1.1.0 a.0.ref_ptr.0 a.0.ref_ptr.1 a.0.ghost_name a.0.now a.1.0 a.1.1.0 a.1.1.1.0 a.1.1.1.1.0 C Λ fm known-core are.1.0 are.1.1.0.0.1 are.1.1.1.0.1 are.1.1.1.1.0.0.1))
 
-meets : {M : Type 1} {𝓤 : Ura M} (𝓛 : Logic 𝓤) → (at_mem : Memory → SProp 𝓤) (run : Routine → Fun 𝓤) (𝓣 : Tables 𝓤 𝓛.H) → Triple 𝓤 (𝓣.C #moves·move-to) (core-of 𝓛 at_mem run) → Meets 𝓛 self.signature (WpFn 𝓤 𝓛.H 𝓣.C 𝓣.Λ code.function) (self.spec 𝓛 at_mem run)
+meets : {M : Type 1} {𝓤 : Ura M} (𝓛 : Logic 𝓤) → (at_mem : Memory → SProp 𝓤) (run : Routine → Fun 𝓤) (𝓣 : Tables 𝓤 𝓛.H) → Triple 𝓤 (𝓣.C #moves·move-to) (core_of 𝓛 at_mem run) → Meets 𝓛 self.signature (WpFn 𝓤 𝓛.H 𝓣.C 𝓣.Λ code.function) (self.spec 𝓛 at_mem run)
 meets {𝓤 = 𝓤} 𝓛 at_mem run 𝓣 known-core =
     walk_Meets 𝓛 self.ended stayed (Goes-ref 𝓛 4 0 tt (plain (λ _. T.the_row)), (Goes-dropped 𝓛 4 (shr_slice_of (1 ∷ []) tt (plain (λ _. u8))) yes (λ κs x f. refl), (Goes-gave_slice 𝓛 4 2 tt (plain (λ _. u8)), (Goes-dropped 𝓛 4 (plain (λ _. u32)) yes (λ κs x f. refl), (Goes-gave_slice 𝓛 4 3 tt (plain (λ _. u8)), tt))))) (self.clauses 𝓛 at_mem run) (WpFn 𝓤 𝓛.H 𝓣.C 𝓣.Λ code.function) (WpFn-mono 𝓤 𝓛.H 𝓛.laws 𝓣 code.function) (walks 𝓛 at_mem run 𝓣.C 𝓣.Λ (fm_of 𝓤 𝓛.H 𝓛.laws 𝓣) known-core)
 
-pub move-mut-spec : {M : Type 1} → stated.statement M
+pub move_mut_spec : {M : Type 1} → stated.statement M
 unfolding code.routine tables_of
-move-mut-spec 𝓤 𝓛 𝓜 𝓡 =
+move_mut_spec 𝓤 𝓛 𝓜 𝓡 =
     entered 𝓤 𝓛.H (triple_of 𝓛 self.signature (self.spec 𝓛 𝓜.mem 𝓡.run))
     (tables 𝓤 𝓛.H 𝓜 𝓡 code.env).C (tables 𝓤 𝓛.H 𝓜 𝓡 code.env).Λ #me code.function (code.unfolded 𝓤 𝓛.H 𝓜 𝓡)
     (meets 𝓛 𝓜.mem 𝓡.run (tables_of 𝓤 𝓛.H 𝓜 (tables 𝓤 𝓛.H 𝓜 𝓡 code.env))
-    (cited 𝓤 𝓛.H (core-of 𝓛 𝓜.mem 𝓡.run) 𝓜 𝓡 code.env #moves·move-to core-def.routine code.calls-moves::move-to (core-thm.met 𝓤 𝓛 𝓜 𝓡)))
+    (cited 𝓤 𝓛.H (core_of 𝓛 𝓜.mem 𝓡.run) 𝓜 𝓡 code.env #moves·move-to core-def.routine code.calls-moves::move-to (core-thm.met 𝓤 𝓛 𝓜 𝓡)))

@@ -3,8 +3,8 @@ use borrow.Author.Rules.{rules}
 use Rattle.script.proofs.main.Statement.{statement}
 use Rattle.script.proofs.main.Tie as tie
 
-print-script-requires : tie.Need-print-script-requires
-print-script-requires c κs = (record { scratch-length = omega arith; text-length = omega arith }, omega arith)
+print_script_requires : tie.Need-print-script-requires
+print_script_requires c κs = (record { scratch_length = omega arith; text-length = omega arith }, omega arith)
 
 pub main_spec : {M : Type 1} → statement M
 main_spec =
@@ -21,5 +21,5 @@ main_spec =
     (λ c. search rules)
     (λ c. search rules)
     (λ c. search rules)
-    print-script-requires
+    print_script_requires
     (λ c. search rules))

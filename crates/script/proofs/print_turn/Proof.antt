@@ -67,11 +67,11 @@ use Rattle.script.proofs.print_turn.Code as code
 abbrev stayed : Stays (self.ended).signature.params (self.ended).kept
 stayed = (gave_ref (0 ∷ []) tt (plain (λ _. T.the_row)), (stay_dropped (shr_slice_of (1 ∷ []) tt (plain (λ _. u8))) yes, (stay_dropped (shr_slice_of (2 ∷ []) tt (plain (λ _. u8))) yes, (stay_dropped (plain (λ _. usize)) yes, (gave_slice (3 ∷ []) tt (plain (λ _. u8)), (gave_slice (4 ∷ []) tt (plain (λ _. u8)), (gave_slice (5 ∷ []) tt (plain (λ _. u8)), tt)))))))
 
-abbrev ct-of : {M : Type 1} {𝓤 : Ura M} (𝓛 : Logic 𝓤) (mem : Memory → SProp 𝓤) (run : Routine → Fun 𝓤) → Contract 𝓤
-ct-of 𝓛 mem run = triple_of 𝓛 ct.signature (ct.spec 𝓛 mem run)
+abbrev ct_of : {M : Type 1} {𝓤 : Ura M} (𝓛 : Logic 𝓤) (mem : Memory → SProp 𝓤) (run : Routine → Fun 𝓤) → Contract 𝓤
+ct_of 𝓛 mem run = triple_of 𝓛 ct.signature (ct.spec 𝓛 mem run)
 
-abbrev pt-of : {M : Type 1} {𝓤 : Ura M} (𝓛 : Logic 𝓤) (mem : Memory → SProp 𝓤) (run : Routine → Fun 𝓤) → Contract 𝓤
-pt-of 𝓛 mem run = triple_of 𝓛 pt.signature (pt.spec 𝓛 mem run)
+abbrev pt_of : {M : Type 1} {𝓤 : Ura M} (𝓛 : Logic 𝓤) (mem : Memory → SProp 𝓤) (run : Routine → Fun 𝓤) → Contract 𝓤
+pt_of 𝓛 mem run = triple_of 𝓛 pt.signature (pt.spec 𝓛 mem run)
 
 abbrev sv : Session → Val
 sv = LL.val T.the_type T'.the_laws
@@ -92,10 +92,10 @@ module _ {M : Type 1} {𝓤 : Ura M} (𝓛 : Logic 𝓤) (at_mem : Memory → SP
   Post = (walk_of 𝓛 self.ended stayed (self.clauses 𝓛 at_mem run)).post (((κ0, (κ1, (κ2, (κ3, (κ4, (κ5, tt)))))), (q0, (q1, (q2, (q3, (q4, (q5, tt)))))), tt, a, vals), tt)
 
   exits : (r : ℕ) (s' : Session) (sc' : List ℕ) (tx' : List ℕ) (cl' : List ℕ) → ((ran bk.now (behind r ca.now) s').session ≡ (ran bk.now (behind at ca.now) h).session) × (at < r) → length sc' ≡ length sc.now → length tx' ≡ length tx.now → length cl' ≡ length cl.now → Is usize r (vint w64 r ∷ []) → ent 𝓤 (⋆ 𝓛 (‵ (flft κ0 q0) ∷ ‵ (flft κ1 q1) ∷ ‵ (flft κ2 q2) ∷ ‵ (flft κ3 q3) ∷ ‵ (flft κ4 q4) ∷ ‵ (flft κ5 q5) ∷ ‵ (fres γ ((T.the_row).coded.code s')) ∷ ‵ (finally u8 sc.ghost_name sc') ∷ ‵ (finally u8 tx.ghost_name tx') ∷ ‵ (finally u8 cl.ghost_name cl') ∷ [])) (Post (vint w64 r))
-  exits r s' sc' tx' cl' e l-sc l-tx l-cl is =
-      qed 𝓛 (‵ (flft κ0 q0) ∷ ‵ (flft κ1 q1) ∷ ‵ (flft κ2 q2) ∷ ‵ (flft κ3 q3) ∷ ‵ (flft κ4 q4) ∷ ‵ (flft κ5 q5) ∷ ‵ (fres γ ((T.the_row).coded.code s')) ∷ ‵ (finally u8 sc.name sc') ∷ ‵ (finally u8 tx.name tx') ∷ ‵ (finally u8 cl.name cl') ∷ []) ∵ suffices ! _ (ends_at 𝓛 self.ended stayed (self.clauses 𝓛 at_mem run) (((κ0, (κ1, (κ2, (κ3, (κ4, (κ5, tt)))))), (q0, (q1, (q2, (q3, (q4, (q5, tt)))))), tt, a, vals), tt) (vint w64 r) r (s', (tt, (tt, (tt, (sc', (tx', (cl', tt))))))) (tt, (tt, (tt, (tt, (l-sc, (l-tx, (l-cl, tt)))))))) $ says ! e $ nothing ! $ move ! (6 ∷ 0 ∷ []) $ join ! $ move ! (5 ∷ 0 ∷ []) $ join ! $ move ! (4 ∷ 0 ∷ []) $ join ! $ move ! (3 ∷ 0 ∷ []) $ join ! $ move ! (2 ∷ 0 ∷ []) $ join ! $ move ! (1 ∷ 0 ∷ []) $ join ! $ frame ! $ nothing ! $ move ! (4 ∷ 0 ∷ []) $ fjoin ! $ move ! (3 ∷ 0 ∷ []) $ fjoin ! $ move ! (2 ∷ 0 ∷ []) $ fjoin ! $ nothing ! $ fjoin ! $ nothing ! $ fjoin ! $ nothing ! $ fjoin ! $ move ! (1 ∷ 0 ∷ []) $ fjoin ! $ owned ! usize (Is usize) (uint_Makes 𝓛 w64) r _ is $ move ! (1 ∷ 0 ∷ []) $ done !
+  exits r s' sc' tx' cl' e l_sc l_tx l_cl is =
+      qed 𝓛 (‵ (flft κ0 q0) ∷ ‵ (flft κ1 q1) ∷ ‵ (flft κ2 q2) ∷ ‵ (flft κ3 q3) ∷ ‵ (flft κ4 q4) ∷ ‵ (flft κ5 q5) ∷ ‵ (fres γ ((T.the_row).coded.code s')) ∷ ‵ (finally u8 sc.name sc') ∷ ‵ (finally u8 tx.name tx') ∷ ‵ (finally u8 cl.name cl') ∷ []) ∵ suffices ! _ (ends_at 𝓛 self.ended stayed (self.clauses 𝓛 at_mem run) (((κ0, (κ1, (κ2, (κ3, (κ4, (κ5, tt)))))), (q0, (q1, (q2, (q3, (q4, (q5, tt)))))), tt, a, vals), tt) (vint w64 r) r (s', (tt, (tt, (tt, (sc', (tx', (cl', tt))))))) (tt, (tt, (tt, (tt, (l_sc, (l_tx, (l_cl, tt)))))))) $ says ! e $ nothing ! $ move ! (6 ∷ 0 ∷ []) $ join ! $ move ! (5 ∷ 0 ∷ []) $ join ! $ move ! (4 ∷ 0 ∷ []) $ join ! $ move ! (3 ∷ 0 ∷ []) $ join ! $ move ! (2 ∷ 0 ∷ []) $ join ! $ move ! (1 ∷ 0 ∷ []) $ join ! $ frame ! $ nothing ! $ move ! (4 ∷ 0 ∷ []) $ fjoin ! $ move ! (3 ∷ 0 ∷ []) $ fjoin ! $ move ! (2 ∷ 0 ∷ []) $ fjoin ! $ nothing ! $ fjoin ! $ nothing ! $ fjoin ! $ nothing ! $ fjoin ! $ move ! (1 ∷ 0 ∷ []) $ fjoin ! $ owned ! usize (Is usize) (uint_Makes 𝓛 w64) r _ is $ move ! (1 ∷ 0 ∷ []) $ done !
 
-  module _ (C : Calls 𝓤 H) (Λ : Loops 𝓤 H) (fm : FmC 𝓤 H 𝓛.laws C) (known-ct : Triple 𝓤 (C #script-text·call-turn) (ct-of 𝓛 at_mem run)) (known-pt : Triple 𝓤 (C #script·print-texts) (pt-of 𝓛 at_mem run)) where
+  module _ (C : Calls 𝓤 H) (Λ : Loops 𝓤 H) (fm : FmC 𝓤 H 𝓛.laws C) (known-ct : Triple 𝓤 (C #script-text·call-turn) (ct_of 𝓛 at_mem run)) (known-pt : Triple 𝓤 (C #script·print-texts) (pt_of 𝓛 at_mem run)) where
     walk : Is (ShrSlice (named 1) κ1 u8) bk (slice_val bk.ref_ptr (length bk.now) ∷ []) → Is (ShrSlice (named 2) κ2 u8) ca (slice_val ca.ref_ptr (length ca.now) ∷ []) → at < 2 ^ 64 → Room u8 (length sc.now) → Room u8 (length tx.now) → Room u8 (length cl.now) → (at < length ca.now) × Desk sc.now tx.now × (length cl.now ≡ text_size) → ent 𝓤 (on_entry 𝓛 self.signature (κ0, (κ1, (κ2, (κ3, (κ4, (κ5, tt)))))) (q0, (q1, (q2, (q3, (q4, (q5, tt)))))) a vals) (WpFn 𝓤 H C Λ code.function (vptr b o ∷ slice_val bk.ref_ptr (length bk.now) ∷ slice_val ca.ref_ptr (length ca.now) ∷ vint w64 at ∷ slice_val sc.ref_ptr (length sc.now) ∷ slice_val tx.ref_ptr (length tx.now) ∷ slice_val cl.ref_ptr (length cl.now) ∷ []) Post)
     walk is-bk is-ca fits-at room_Sc room-tx room-cl req =
         qed 𝓛 ((‵ (flft κ0 q0) ⊛ ‵ (flft κ1 q1) ⊛ ‵ (flft κ2 q2) ⊛ ‵ (flft κ3 q3) ⊛ ‵ (flft κ4 q4) ⊛ ‵ (flft κ5 q5) ⊛ ‵ ftrue) ∷ ‵ (owns (MutRef (named 0) κ0 T.the_row ∷ ShrSlice (named 1) κ1 u8 ∷ ShrSlice (named 2) κ2 u8 ∷ usize ∷ MutSlice (named 3) κ3 u8 ∷ MutSlice (named 4) κ4 u8 ∷ MutSlice (named 5) κ5 u8 ∷ []) a vals) ∷ []) ∵ enter ! C Λ code.function (vptr b o ∷ slice_val bk.ref_ptr (length bk.now) ∷ slice_val ca.ref_ptr (length ca.now) ∷ vint w64 at ∷ slice_val sc.ref_ptr (length sc.now) ∷ slice_val tx.ref_ptr (length tx.now) ∷ slice_val cl.ref_ptr (length cl.now) ∷ []) _ $
@@ -121,8 +121,8 @@ module _ {M : Type 1} {𝓤 : Ura M} (𝓛 : Logic 𝓤) (at_mem : Memory → SP
         lft_new ! tt (λ ν1-cl. move ! (11 ∷ 6 ∷ []) $
         use2 𝓛 (later (some (λ (δ : GName). ‵ ((MutSlice (named 5) (ν1-cl ∷ []) u8).own_val (record { ref_ptr = cl.ref_ptr; ghost_name = δ; now = cl.now }) (slice_val cl.ref_ptr (length cl.now) ∷ [])) ⊛ ‵ (again.LentAgain u8 κ5 (ν1-cl ∷ []) q5 cl.ghost_name cl.ref_ptr.0 cl.ref_ptr.1 δ cl.now)))) (again.lends_again u8 κ5 (ν1-cl ∷ []) q5 cl.ghost_name cl.ref_ptr.0 cl.ref_ptr.1 𝓛 (named 5) (named 5) cl.now (length cl.now)) $ await ! tt $ pick ! (λ δ1-cl. split ! $
         move ! (11 ∷ 10 ∷ 9 ∷ 8 ∷ 5 ∷ 2 ∷ 14 ∷ 13 ∷ 6 ∷ 12 ∷ 3 ∷ 0 ∷ []) $ group ! 12 $
-        use1 𝓛 (raw ((ct-of 𝓛 at_mem run).pre (((κ0, (κ1, (κ2, (κ3, ((ν1-tx ∷ []), ((ν1-cl ∷ []), tt)))))), (q0, (q1, (q2, (q3, (full_share, (full_share, tt)))))), tt, ((record { ref_ptr = (b, o); ghost_name = γ; now = h }), (bk, (ca, (at, ((record { ref_ptr = sc.ref_ptr; ghost_name = sc.ghost_name; now = sc.now }), ((record { ref_ptr = tx.ref_ptr; ghost_name = δ1-tx; now = tx.now }), ((record { ref_ptr = cl.ref_ptr; ghost_name = δ1-cl; now = cl.now }), tt))))))), (vptr b o ∷ [], (slice_val bk.ref_ptr (length bk.now) ∷ [], (slice_val ca.ref_ptr (length ca.now) ∷ [], (vint w64 at ∷ [], (slice_val sc.ref_ptr (length sc.now) ∷ [], (slice_val tx.ref_ptr (length tx.now) ∷ [], (slice_val cl.ref_ptr (length cl.now) ∷ [], tt)))))))), tt))) (qed 𝓛 (‵ (flft κ0 q0) ∷ ‵ (flft κ1 q1) ∷ ‵ (flft κ2 q2) ∷ ‵ (flft κ3 q3) ∷ ‵ (flft ((ν1-tx ∷ [])) full_share) ∷ ‵ (flft ((ν1-cl ∷ [])) full_share) ∷ ‵ ((MutRef (named 0) κ0 T.the_row).own_val (record { ref_ptr = (b, o); ghost_name = γ; now = h }) (vptr b o ∷ [])) ∷ ‵ ((ShrSlice (named 1) κ1 u8).own_val bk (slice_val bk.ref_ptr (length bk.now) ∷ [])) ∷ ‵ ((ShrSlice (named 2) κ2 u8).own_val ca (slice_val ca.ref_ptr (length ca.now) ∷ [])) ∷ ‵ ((MutSlice (named 3) κ3 u8).own_val (record { ref_ptr = sc.ref_ptr; ghost_name = sc.ghost_name; now = sc.now }) (slice_val sc.ref_ptr (length sc.now) ∷ [])) ∷ ‵ ((MutSlice (named 4) (ν1-tx ∷ []) u8).own_val (record { ref_ptr = tx.ref_ptr; ghost_name = δ1-tx; now = tx.now }) (slice_val tx.ref_ptr (length tx.now) ∷ [])) ∷ ‵ ((MutSlice (named 5) (ν1-cl ∷ []) u8).own_val (record { ref_ptr = cl.ref_ptr; ghost_name = δ1-cl; now = cl.now }) (slice_val cl.ref_ptr (length cl.now) ∷ [])) ∷ []) ∵ says ! ((omega (arith, req.0), req.1, req.2)) $ nothing ! $ move ! (12 ∷ 0 ∷ []) $ fjoin ! $ move ! (11 ∷ 0 ∷ []) $ fjoin ! $ move ! (10 ∷ 0 ∷ []) $ fjoin ! $ owned ! usize (Is usize) (uint_Makes 𝓛 w64) at _ ((refl, fits-at)) $ fjoin ! $ move ! (9 ∷ 0 ∷ []) $ fjoin ! $ move ! (8 ∷ 0 ∷ []) $ fjoin ! $ move ! (7 ∷ 0 ∷ []) $ fjoin ! $ nothing ! $ move ! (7 ∷ 0 ∷ []) $ join ! $ move ! (6 ∷ 0 ∷ []) $ join ! $ move ! (5 ∷ 0 ∷ []) $ join ! $ move ! (4 ∷ 0 ∷ []) $ join ! $ move ! (3 ∷ 0 ∷ []) $ join ! $ move ! (2 ∷ 0 ∷ []) $ join ! $ frame ! $ done !) $
-        calls_at ! fm (ct-of 𝓛 at_mem run) known-ct (((κ0, (κ1, (κ2, (κ3, ((ν1-tx ∷ []), ((ν1-cl ∷ []), tt)))))), (q0, (q1, (q2, (q3, (full_share, (full_share, tt)))))), tt, ((record { ref_ptr = (b, o); ghost_name = γ; now = h }), (bk, (ca, (at, ((record { ref_ptr = sc.ref_ptr; ghost_name = sc.ghost_name; now = sc.now }), ((record { ref_ptr = tx.ref_ptr; ghost_name = δ1-tx; now = tx.now }), ((record { ref_ptr = cl.ref_ptr; ghost_name = δ1-cl; now = cl.now }), tt))))))), (vptr b o ∷ [], (slice_val bk.ref_ptr (length bk.now) ∷ [], (slice_val ca.ref_ptr (length ca.now) ∷ [], (vint w64 at ∷ [], (slice_val sc.ref_ptr (length sc.now) ∷ [], (slice_val tx.ref_ptr (length tx.now) ∷ [], (slice_val cl.ref_ptr (length cl.now) ∷ [], tt)))))))), tt) (and_then ! (load ! (from ! (stop !)) (look ! 24 refl)) (and_then ! (load ! (from ! (stop !)) (look ! 38 refl)) (and_then ! (load ! (from ! (stop !)) (look ! 36 refl)) (and_then ! (load ! (from ! (stop !)) (look ! 34 refl)) (and_then ! (load ! (from ! (stop !)) (look ! 20 refl)) (and_then ! (load ! (from ! (stop !)) (look ! 16 refl)) (and_then ! (load ! (from ! (stop !)) (look ! 12 refl)) (no_more !)))))))) (λ w1.
+        use1 𝓛 (raw ((ct_of 𝓛 at_mem run).pre (((κ0, (κ1, (κ2, (κ3, ((ν1-tx ∷ []), ((ν1-cl ∷ []), tt)))))), (q0, (q1, (q2, (q3, (full_share, (full_share, tt)))))), tt, ((record { ref_ptr = (b, o); ghost_name = γ; now = h }), (bk, (ca, (at, ((record { ref_ptr = sc.ref_ptr; ghost_name = sc.ghost_name; now = sc.now }), ((record { ref_ptr = tx.ref_ptr; ghost_name = δ1-tx; now = tx.now }), ((record { ref_ptr = cl.ref_ptr; ghost_name = δ1-cl; now = cl.now }), tt))))))), (vptr b o ∷ [], (slice_val bk.ref_ptr (length bk.now) ∷ [], (slice_val ca.ref_ptr (length ca.now) ∷ [], (vint w64 at ∷ [], (slice_val sc.ref_ptr (length sc.now) ∷ [], (slice_val tx.ref_ptr (length tx.now) ∷ [], (slice_val cl.ref_ptr (length cl.now) ∷ [], tt)))))))), tt))) (qed 𝓛 (‵ (flft κ0 q0) ∷ ‵ (flft κ1 q1) ∷ ‵ (flft κ2 q2) ∷ ‵ (flft κ3 q3) ∷ ‵ (flft ((ν1-tx ∷ [])) full_share) ∷ ‵ (flft ((ν1-cl ∷ [])) full_share) ∷ ‵ ((MutRef (named 0) κ0 T.the_row).own_val (record { ref_ptr = (b, o); ghost_name = γ; now = h }) (vptr b o ∷ [])) ∷ ‵ ((ShrSlice (named 1) κ1 u8).own_val bk (slice_val bk.ref_ptr (length bk.now) ∷ [])) ∷ ‵ ((ShrSlice (named 2) κ2 u8).own_val ca (slice_val ca.ref_ptr (length ca.now) ∷ [])) ∷ ‵ ((MutSlice (named 3) κ3 u8).own_val (record { ref_ptr = sc.ref_ptr; ghost_name = sc.ghost_name; now = sc.now }) (slice_val sc.ref_ptr (length sc.now) ∷ [])) ∷ ‵ ((MutSlice (named 4) (ν1-tx ∷ []) u8).own_val (record { ref_ptr = tx.ref_ptr; ghost_name = δ1-tx; now = tx.now }) (slice_val tx.ref_ptr (length tx.now) ∷ [])) ∷ ‵ ((MutSlice (named 5) (ν1-cl ∷ []) u8).own_val (record { ref_ptr = cl.ref_ptr; ghost_name = δ1-cl; now = cl.now }) (slice_val cl.ref_ptr (length cl.now) ∷ [])) ∷ []) ∵ says ! ((omega (arith, req.0), req.1, req.2)) $ nothing ! $ move ! (12 ∷ 0 ∷ []) $ fjoin ! $ move ! (11 ∷ 0 ∷ []) $ fjoin ! $ move ! (10 ∷ 0 ∷ []) $ fjoin ! $ owned ! usize (Is usize) (uint_Makes 𝓛 w64) at _ ((refl, fits-at)) $ fjoin ! $ move ! (9 ∷ 0 ∷ []) $ fjoin ! $ move ! (8 ∷ 0 ∷ []) $ fjoin ! $ move ! (7 ∷ 0 ∷ []) $ fjoin ! $ nothing ! $ move ! (7 ∷ 0 ∷ []) $ join ! $ move ! (6 ∷ 0 ∷ []) $ join ! $ move ! (5 ∷ 0 ∷ []) $ join ! $ move ! (4 ∷ 0 ∷ []) $ join ! $ move ! (3 ∷ 0 ∷ []) $ join ! $ move ! (2 ∷ 0 ∷ []) $ join ! $ frame ! $ done !) $
+        calls_at ! fm (ct_of 𝓛 at_mem run) known-ct (((κ0, (κ1, (κ2, (κ3, ((ν1-tx ∷ []), ((ν1-cl ∷ []), tt)))))), (q0, (q1, (q2, (q3, (full_share, (full_share, tt)))))), tt, ((record { ref_ptr = (b, o); ghost_name = γ; now = h }), (bk, (ca, (at, ((record { ref_ptr = sc.ref_ptr; ghost_name = sc.ghost_name; now = sc.now }), ((record { ref_ptr = tx.ref_ptr; ghost_name = δ1-tx; now = tx.now }), ((record { ref_ptr = cl.ref_ptr; ghost_name = δ1-cl; now = cl.now }), tt))))))), (vptr b o ∷ [], (slice_val bk.ref_ptr (length bk.now) ∷ [], (slice_val ca.ref_ptr (length ca.now) ∷ [], (vint w64 at ∷ [], (slice_val sc.ref_ptr (length sc.now) ∷ [], (slice_val tx.ref_ptr (length tx.now) ∷ [], (slice_val cl.ref_ptr (length cl.now) ∷ [], tt)))))))), tt) (and_then ! (load ! (from ! (stop !)) (look ! 24 refl)) (and_then ! (load ! (from ! (stop !)) (look ! 38 refl)) (and_then ! (load ! (from ! (stop !)) (look ! 36 refl)) (and_then ! (load ! (from ! (stop !)) (look ! 34 refl)) (and_then ! (load ! (from ! (stop !)) (look ! 20 refl)) (and_then ! (load ! (from ! (stop !)) (look ! 16 refl)) (and_then ! (load ! (from ! (stop !)) (look ! 12 refl)) (no_more !)))))))) (λ w1.
         use1 𝓛 (later (some (λ (r : Turn). ((‵ (flft κ0 q0) ⊛ ‵ (flft κ1 q1) ⊛ ‵ (flft κ2 q2) ⊛ ‵ (flft κ3 q3) ⊛ ‵ (flft ((ν1-tx ∷ [])) full_share) ⊛ ‵ (flft ((ν1-cl ∷ [])) full_share) ⊛ ‵ ftrue) ⊛ ‵ ((TU.the_row).own_val r (w1 ∷ []))) ⊛ raw (ensured 𝓛 ct.ended (ct.clauses 𝓛 at_mem run) (κ0, (κ1, (κ2, (κ3, ((ν1-tx ∷ []), ((ν1-cl ∷ []), tt)))))) ((record { ref_ptr = (b, o); ghost_name = γ; now = h }), (bk, (ca, (at, ((record { ref_ptr = sc.ref_ptr; ghost_name = sc.ghost_name; now = sc.now }), ((record { ref_ptr = tx.ref_ptr; ghost_name = δ1-tx; now = tx.now }), ((record { ref_ptr = cl.ref_ptr; ghost_name = δ1-cl; now = cl.now }), tt))))))) tt r)))) (id⊢ 𝓤 _) $ await ! tt $ pick ! (λ r1.
         split ! $ move ! (1 ∷ []) $ use1 𝓛 (some (λ (zs : (Session × (Unit {0} × (Unit {0} × (Unit {0} × (List ℕ × (List ℕ × (List ℕ × Unit {0})))))))). ‵ (lasts ct.ended (κ0, (κ1, (κ2, (κ3, ((ν1-tx ∷ []), ((ν1-cl ∷ []), tt)))))) ((record { ref_ptr = (b, o); ghost_name = γ; now = h }), (bk, (ca, (at, ((record { ref_ptr = sc.ref_ptr; ghost_name = sc.ghost_name; now = sc.now }), ((record { ref_ptr = tx.ref_ptr; ghost_name = δ1-tx; now = tx.now }), ((record { ref_ptr = cl.ref_ptr; ghost_name = δ1-cl; now = cl.now }), tt))))))) zs) ⊛ raw (fact 𝓤 (Turned (turn bk.now (record { ref_ptr = (b, o); ghost_name = γ; now = h }).now (shape (behind at ca.now))) r1 zs.0 zs.1.1.1.1.1.0 zs.1.1.1.1.1.1.0)))) (id⊢ 𝓤 _) $ pick ! (λ zs1.
         split ! $ move ! (1 ∷ []) $ heard ! (Turned (turn bk.now (record { ref_ptr = (b, o); ghost_name = γ; now = h }).now (shape (behind at ca.now))) r1 zs1.0 zs1.1.1.1.1.1.0 zs1.1.1.1.1.1.1.0) (λ e1.
@@ -142,8 +142,8 @@ module _ {M : Type 1} {𝓤 : Ura M} (𝓛 : Logic 𝓤) (at_mem : Memory → SP
         assigns ! (agg ! (and_then ! (load ! (from ! (stop !)) (look ! 13 refl)) (and_then ! (load ! (from ! (fld ! refl (stop !))) (look_in ! 35 (sub ! 1 refl (whole !)))) (no_more !)))) (from ! (stop !)) (init ! 11 refl ((tt, (tt, (record { fits = room-cl.0 }, tt))))) $
         -- `print_texts`
         move ! (5 ∷ 3 ∷ 1 ∷ 10 ∷ 2 ∷ 0 ∷ []) $ group ! 6 $
-        use1 𝓛 (raw ((pt-of 𝓛 at_mem run).pre (((κ2, (κ4, (κ5, tt))), (q2, (q4, (q5, tt))), tt, (r1, (ca, (at, ((record { ref_ptr = tx.ref_ptr; ghost_name = tx.ghost_name; now = zs1.1.1.1.1.1.0 }), ((record { ref_ptr = cl.ref_ptr; ghost_name = cl.ghost_name; now = zs1.1.1.1.1.1.1.0 }), tt))))), (LL.val TU.the_type TU'.the_laws r1 ∷ [], (slice_val ca.ref_ptr (length ca.now) ∷ [], (vint w64 at ∷ [], (slice_val tx.ref_ptr (length tx.now) ∷ [], (slice_val cl.ref_ptr (length cl.now) ∷ [], tt)))))), tt))) (qed 𝓛 (‵ (flft κ2 q2) ∷ ‵ (flft κ4 q4) ∷ ‵ (flft κ5 q5) ∷ ‵ ((ShrSlice (named 0) κ2 u8).own_val ca (slice_val ca.ref_ptr (length ca.now) ∷ [])) ∷ ‵ ((MutSlice (named 1) κ4 u8).own_val (record { ref_ptr = tx.ref_ptr; ghost_name = tx.ghost_name; now = zs1.1.1.1.1.1.0 }) (slice_val tx.ref_ptr (length tx.now) ∷ [])) ∷ ‵ ((MutSlice (named 2) κ5 u8).own_val (record { ref_ptr = cl.ref_ptr; ghost_name = cl.ghost_name; now = zs1.1.1.1.1.1.1.0 }) (slice_val cl.ref_ptr (length cl.now) ∷ [])) ∷ []) ∵ says ! ((req.0, e1.text-fits, e1.closing-fits)) $ nothing ! $ move ! (6 ∷ 0 ∷ []) $ fjoin ! $ move ! (5 ∷ 0 ∷ []) $ fjoin ! $ owned ! usize (Is usize) (uint_Makes 𝓛 w64) at _ ((refl, fits-at)) $ fjoin ! $ move ! (4 ∷ 0 ∷ []) $ fjoin ! $ owned ! TU.the_row (Is TU.the_row) (LL.makes TU.the_type TU'.the_plain 𝓛) r1 _ is1 $ fjoin ! $ nothing ! $ move ! (4 ∷ 0 ∷ []) $ join ! $ move ! (3 ∷ 0 ∷ []) $ join ! $ move ! (2 ∷ 0 ∷ []) $ join ! $ frame ! $ done !) $
-        calls_at ! fm (pt-of 𝓛 at_mem run) known-pt (((κ2, (κ4, (κ5, tt))), (q2, (q4, (q5, tt))), tt, (r1, (ca, (at, ((record { ref_ptr = tx.ref_ptr; ghost_name = tx.ghost_name; now = zs1.1.1.1.1.1.0 }), ((record { ref_ptr = cl.ref_ptr; ghost_name = cl.ghost_name; now = zs1.1.1.1.1.1.1.0 }), tt))))), (LL.val TU.the_type TU'.the_laws r1 ∷ [], (slice_val ca.ref_ptr (length ca.now) ∷ [], (vint w64 at ∷ [], (slice_val tx.ref_ptr (length tx.now) ∷ [], (slice_val cl.ref_ptr (length cl.now) ∷ [], tt)))))), tt) (and_then ! (load ! (from ! (stop !)) (look ! 28 refl)) (and_then ! (load ! (from ! (stop !)) (look ! 38 refl)) (and_then ! (load ! (from ! (stop !)) (look ! 36 refl)) (and_then ! (load ! (from ! (stop !)) (look ! 10 refl)) (and_then ! (load ! (from ! (stop !)) (look ! 6 refl)) (no_more !)))))) (λ w2.
+        use1 𝓛 (raw ((pt_of 𝓛 at_mem run).pre (((κ2, (κ4, (κ5, tt))), (q2, (q4, (q5, tt))), tt, (r1, (ca, (at, ((record { ref_ptr = tx.ref_ptr; ghost_name = tx.ghost_name; now = zs1.1.1.1.1.1.0 }), ((record { ref_ptr = cl.ref_ptr; ghost_name = cl.ghost_name; now = zs1.1.1.1.1.1.1.0 }), tt))))), (LL.val TU.the_type TU'.the_laws r1 ∷ [], (slice_val ca.ref_ptr (length ca.now) ∷ [], (vint w64 at ∷ [], (slice_val tx.ref_ptr (length tx.now) ∷ [], (slice_val cl.ref_ptr (length cl.now) ∷ [], tt)))))), tt))) (qed 𝓛 (‵ (flft κ2 q2) ∷ ‵ (flft κ4 q4) ∷ ‵ (flft κ5 q5) ∷ ‵ ((ShrSlice (named 0) κ2 u8).own_val ca (slice_val ca.ref_ptr (length ca.now) ∷ [])) ∷ ‵ ((MutSlice (named 1) κ4 u8).own_val (record { ref_ptr = tx.ref_ptr; ghost_name = tx.ghost_name; now = zs1.1.1.1.1.1.0 }) (slice_val tx.ref_ptr (length tx.now) ∷ [])) ∷ ‵ ((MutSlice (named 2) κ5 u8).own_val (record { ref_ptr = cl.ref_ptr; ghost_name = cl.ghost_name; now = zs1.1.1.1.1.1.1.0 }) (slice_val cl.ref_ptr (length cl.now) ∷ [])) ∷ []) ∵ says ! ((req.0, e1.text_fits, e1.closing_fits)) $ nothing ! $ move ! (6 ∷ 0 ∷ []) $ fjoin ! $ move ! (5 ∷ 0 ∷ []) $ fjoin ! $ owned ! usize (Is usize) (uint_Makes 𝓛 w64) at _ ((refl, fits-at)) $ fjoin ! $ move ! (4 ∷ 0 ∷ []) $ fjoin ! $ owned ! TU.the_row (Is TU.the_row) (LL.makes TU.the_type TU'.the_plain 𝓛) r1 _ is1 $ fjoin ! $ nothing ! $ move ! (4 ∷ 0 ∷ []) $ join ! $ move ! (3 ∷ 0 ∷ []) $ join ! $ move ! (2 ∷ 0 ∷ []) $ join ! $ frame ! $ done !) $
+        calls_at ! fm (pt_of 𝓛 at_mem run) known-pt (((κ2, (κ4, (κ5, tt))), (q2, (q4, (q5, tt))), tt, (r1, (ca, (at, ((record { ref_ptr = tx.ref_ptr; ghost_name = tx.ghost_name; now = zs1.1.1.1.1.1.0 }), ((record { ref_ptr = cl.ref_ptr; ghost_name = cl.ghost_name; now = zs1.1.1.1.1.1.1.0 }), tt))))), (LL.val TU.the_type TU'.the_laws r1 ∷ [], (slice_val ca.ref_ptr (length ca.now) ∷ [], (vint w64 at ∷ [], (slice_val tx.ref_ptr (length tx.now) ∷ [], (slice_val cl.ref_ptr (length cl.now) ∷ [], tt)))))), tt) (and_then ! (load ! (from ! (stop !)) (look ! 28 refl)) (and_then ! (load ! (from ! (stop !)) (look ! 38 refl)) (and_then ! (load ! (from ! (stop !)) (look ! 36 refl)) (and_then ! (load ! (from ! (stop !)) (look ! 10 refl)) (and_then ! (load ! (from ! (stop !)) (look ! 6 refl)) (no_more !)))))) (λ w2.
         use1 𝓛 (later (some (λ (r : ℕ). ((‵ (flft κ2 q2) ⊛ ‵ (flft κ4 q4) ⊛ ‵ (flft κ5 q5) ⊛ ‵ ftrue) ⊛ ‵ (usize.own_val r (w2 ∷ []))) ⊛ raw (ensured 𝓛 pt.ended (pt.clauses 𝓛 at_mem run) (κ2, (κ4, (κ5, tt))) (r1, (ca, (at, ((record { ref_ptr = tx.ptr; ghost_name = tx.name; now = zs1.1.1.1.1.1.0 }), ((record { ref_ptr = cl.ptr; ghost_name = cl.name; now = zs1.1.1.1.1.1.1.0 }), tt))))) tt r)))) (id⊢ 𝓤 _) $ await ! tt $ pick ! (λ r2.
         split ! $ move ! (1 ∷ []) $ use1 𝓛 (some (λ (zs : (Unit {0} × (Unit {0} × (Unit {0} × (List ℕ × (List ℕ × Unit {0})))))). ‵ (lasts pt.ended (κ2, (κ4, (κ5, tt))) (r1, (ca, (at, ((record { ref_ptr = tx.ptr; ghost_name = tx.name; now = zs1.1.1.1.1.1.0 }), ((record { ref_ptr = cl.ptr; ghost_name = cl.name; now = zs1.1.1.1.1.1.1.0 }), tt))))) zs) ⊛ raw (fact 𝓤 (r2 ≡ next_place r1.more at (length ca.now))))) (id⊢ 𝓤 _) $ pick ! (λ zs2.
         split ! $ move ! (1 ∷ []) $ heard ! (r2 ≡ next_place r1.more at (length ca.now)) (λ e2. fsplit ! $ drop ! $ fsplit ! $ drop ! $ fsplit ! $ drop ! $ fsplit ! $
@@ -164,18 +164,18 @@ module _ {M : Type 1} {𝓤 : Ura M} (𝓛 : Logic 𝓤) (at_mem : Memory → SP
 module _ {M : Type 1} {𝓤 : Ura M} (𝓛 : Logic 𝓤) (at_mem : Memory → SProp 𝓤) (run : Routine → Fun 𝓤) where
   open 𝓛 use {H}
 
-  walks : (C : Calls 𝓤 H) (Λ : Loops 𝓤 H) → FmC 𝓤 H 𝓛.laws C → Triple 𝓤 (C #script-text·call-turn) (ct-of 𝓛 at_mem run) → Triple 𝓤 (C #script·print-texts) (pt-of 𝓛 at_mem run) → Walks 𝓛 self.ended stayed (WpFn 𝓤 H C Λ code.function) (self.clauses 𝓛 at_mem run)
+  walks : (C : Calls 𝓤 H) (Λ : Loops 𝓤 H) → FmC 𝓤 H 𝓛.laws C → Triple 𝓤 (C #script-text·call-turn) (ct_of 𝓛 at_mem run) → Triple 𝓤 (C #script·print-texts) (pt_of 𝓛 at_mem run) → Walks 𝓛 self.ended stayed (WpFn 𝓤 H C Λ code.function) (self.clauses 𝓛 at_mem run)
   walks C Λ fm known-ct known-pt = walked 𝓛 self.ended stayed (self.clauses 𝓛 at_mem run) (WpFn 𝓤 H C Λ code.function) (λ κs. (mut_vals, (shr_slice_vals, (shr_slice_vals, (uint_vals w64, (mut_slice_vals, (mut_slice_vals, (mut_slice_vals, tt)))))))) (λ κs. (mut_Tells (named 0) κs.0 T.the_row, (shr_slice_Tells (named 1) κs.1.0 u8, (shr_slice_Tells (named 2) κs.1.1.0 u8, (uint_Tells w64, (mut_slice_Tells (named 3) κs.1.1.1.0 u8, (mut_slice_Tells (named 4) κs.1.1.1.1.0 u8, (mut_slice_Tells (named 5) κs.1.1.1.1.1.0 u8, tt))))))))
       (λ κs qs bounds a g are. needs 𝓤 ((a.1.1.1.0 < length a.1.1.0.now) × Desk a.1.1.1.1.0.now a.1.1.1.1.1.0.now × (length a.1.1.1.1.1.1.0.now ≡ text_size)) _ (λ req. walk 𝓛 at_mem run κs.0 κs.1.0 κs.1.1.0 κs.1.1.1.0 κs.1.1.1.1.0 κs.1.1.1.1.1.0 qs.0 qs.1.0 qs.1.1.0 qs.1.1.1.0 qs.1.1.1.1.0 qs.1.1.1.1.1.0 a.0.ref_ptr.0 a.0.ref_ptr.1 a.0.ghost_name a.0.now a.1.0 a.1.1.0 a.1.1.1.0 a.1.1.1.1.0 a.1.1.1.1.1.0 a.1.1.1.1.1.1.0 C Λ fm known-ct known-pt are.1.0 are.1.1.0 are.1.1.1.0.1 are.1.1.1.1.0.0.1 are.1.1.1.1.1.0.0.1 are.1.1.1.1.1.1.0.0.1 req))
 
-meets : {M : Type 1} {𝓤 : Ura M} (𝓛 : Logic 𝓤) → (at_mem : Memory → SProp 𝓤) (run : Routine → Fun 𝓤) (𝓣 : Tables 𝓤 𝓛.H) → Triple 𝓤 (𝓣.C #script-text·call-turn) (ct-of 𝓛 at_mem run) → Triple 𝓤 (𝓣.C #script·print-texts) (pt-of 𝓛 at_mem run) → Meets 𝓛 self.signature (WpFn 𝓤 𝓛.H 𝓣.C 𝓣.Λ code.function) (self.spec 𝓛 at_mem run)
+meets : {M : Type 1} {𝓤 : Ura M} (𝓛 : Logic 𝓤) → (at_mem : Memory → SProp 𝓤) (run : Routine → Fun 𝓤) (𝓣 : Tables 𝓤 𝓛.H) → Triple 𝓤 (𝓣.C #script-text·call-turn) (ct_of 𝓛 at_mem run) → Triple 𝓤 (𝓣.C #script·print-texts) (pt_of 𝓛 at_mem run) → Meets 𝓛 self.signature (WpFn 𝓤 𝓛.H 𝓣.C 𝓣.Λ code.function) (self.spec 𝓛 at_mem run)
 meets {𝓤 = 𝓤} 𝓛 at_mem run 𝓣 known-ct known-pt =
     walk_Meets 𝓛 self.ended stayed (Goes-gave_ref 𝓛 6 0 tt (plain (λ _. T.the_row)), (Goes-dropped 𝓛 6 (shr_slice_of (1 ∷ []) tt (plain (λ _. u8))) yes (λ κs x f. refl), (Goes-dropped 𝓛 6 (shr_slice_of (2 ∷ []) tt (plain (λ _. u8))) yes (λ κs x f. refl), (Goes-dropped 𝓛 6 (plain (λ _. usize)) yes (λ κs x f. refl), (Goes-gave_slice 𝓛 6 3 tt (plain (λ _. u8)), (Goes-gave_slice 𝓛 6 4 tt (plain (λ _. u8)), (Goes-gave_slice 𝓛 6 5 tt (plain (λ _. u8)), tt))))))) (self.clauses 𝓛 at_mem run) (WpFn 𝓤 𝓛.H 𝓣.C 𝓣.Λ code.function) (WpFn-mono 𝓤 𝓛.H 𝓛.laws 𝓣 code.function) (walks 𝓛 at_mem run 𝓣.C 𝓣.Λ (fm_of 𝓤 𝓛.H 𝓛.laws 𝓣) known-ct known-pt)
 
-pub print-turn-spec : {M : Type 1} → stated.statement M
+pub print_turn_spec : {M : Type 1} → stated.statement M
 unfolding code.routine tables_of
-print-turn-spec 𝓤 𝓛 𝓜 𝓡 =
+print_turn_spec 𝓤 𝓛 𝓜 𝓡 =
     entered 𝓤 𝓛.H (triple_of 𝓛 self.signature (self.spec 𝓛 𝓜.mem 𝓡.run))
     (tables 𝓤 𝓛.H 𝓜 𝓡 code.env).C (tables 𝓤 𝓛.H 𝓜 𝓡 code.env).Λ #me code.function (code.unfolded 𝓤 𝓛.H 𝓜 𝓡)
     (meets 𝓛 𝓜.mem 𝓡.run (tables_of 𝓤 𝓛.H 𝓜 (tables 𝓤 𝓛.H 𝓜 𝓡 code.env))
-    (cited 𝓤 𝓛.H (ct-of 𝓛 𝓜.mem 𝓡.run) 𝓜 𝓡 code.env #script-text·call-turn ct-def.routine code.calls-script-text::call-turn (ct-thm.met 𝓤 𝓛 𝓜 𝓡)) (cited 𝓤 𝓛.H (pt-of 𝓛 𝓜.mem 𝓡.run) 𝓜 𝓡 code.env #script·print-texts pt-def.routine code.calls-script::print-texts (pt-thm.met 𝓤 𝓛 𝓜 𝓡)))
+    (cited 𝓤 𝓛.H (ct_of 𝓛 𝓜.mem 𝓡.run) 𝓜 𝓡 code.env #script-text·call-turn ct-def.routine code.calls-script-text::call-turn (ct-thm.met 𝓤 𝓛 𝓜 𝓡)) (cited 𝓤 𝓛.H (pt_of 𝓛 𝓜.mem 𝓡.run) 𝓜 𝓡 code.env #script·print-texts pt-def.routine code.calls-script::print-texts (pt-thm.met 𝓤 𝓛 𝓜 𝓡)))

@@ -1,6 +1,6 @@
 use native.Mathlib.Omega.{arith}
 use borrow.Author.Tests.{not-true, not-false}
-use Rattle.session_test.proofs.Tests.{no_node, no-goal, unreachable, levels-tell, standing-fresh}
+use Rattle.session_test.proofs.Tests.{no_node, no_goal, unreachable, levels_tell, standing_fresh}
 use Rattle.std.proofs.lemmas.Bool.{not_from_false, not_from_true}
 use Rattle.session_test.proofs.is_session.Goals as goal
 
@@ -8,13 +8,13 @@ pub returns-then-count-node : goal.returns-then-count-node
 returns-then-count-node c = no_node _ c.requires _ (omega (arith, c.count.ensures.is, c.if-count-node.true))
 
 pub returns-then-not-goal_fits : goal.returns-then-not-goal_fits
-returns-then-not-goal_fits c = no-goal _ c.requires _ c.count-2.ensures.is c.goal_fits.ensures (not-true _ (not_from_false _ c.if-not-goal_fits.true))
+returns-then-not-goal_fits c = no_goal _ c.requires _ c.count-2.ensures.is c.goal_fits.ensures (not-true _ (not_from_false _ c.if-not-goal_fits.true))
 
 pub set_context-done-requires : goal.set_context-done-requires
-set_context-done-requires c = standing-fresh _ c.requires _ (omega (arith, c.count.ensures.is, c.if-count-node.false)) c.blank-levels.ensures
+set_context-done-requires c = standing_fresh _ c.requires _ (omega (arith, c.count.ensures.is, c.if-count-node.false)) c.blank-levels.ensures
 
 pub returns-then-done : goal.returns-then-done
 returns-then-done c = unreachable _ c.requires _ c.set_context-done.ensures.state.missing c.if-done.true
 
 pub returns : goal.returns
-returns c = levels-tell _ c.requires _ (omega (arith, c.count.ensures.is, c.if-count-node.false)) c.count-2.ensures.is c.goal_fits.ensures (not-false _ (not_from_true _ c.if-not-goal_fits.false)) c.set_context-done.ensures.state.missing c.if-done.false c.set_context-done.ensures.state.levels c.same_levels.ensures
+returns c = levels_tell _ c.requires _ (omega (arith, c.count.ensures.is, c.if-count-node.false)) c.count-2.ensures.is c.goal_fits.ensures (not-false _ (not_from_true _ c.if-not-goal_fits.false)) c.set_context-done.ensures.state.missing c.if-done.false c.set_context-done.ensures.state.levels c.same_levels.ensures

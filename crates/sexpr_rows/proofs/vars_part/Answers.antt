@@ -1,14 +1,14 @@
 use native.Mathlib.Omega.{arith}
 use Rattle.solver_expr.specs.Values.{FineRow}
-use Rattle.sexpr_rows.proofs.Parts.{vars-listed, vars-each}
+use Rattle.sexpr_rows.proofs.Parts.{vars_listed, vars_each}
 use Rattle.sexpr_rows.proofs.vars_part.Goals as goal
 
 pub field-requires : goal.field-requires
 unfolding FineRow
-field-requires c = (omega arith, record { laid = c.requires.promise.terms-laid; here = c.requires.fine.here; within = omega arith })
+field-requires c = (omega arith, record { laid = c.requires.promise.terms_laid; here = c.requires.fine.here; within = omega arith })
 
 pub entry-v-requires : goal.entry-v-requires
-entry-v-requires c = vars-listed _ _ _ c.requires c.field.ensures.is
+entry-v-requires c = vars_listed _ _ _ c.requires c.field.ensures.is
 
 pub returns : goal.returns
-returns c = vars-each _ _ _ c.requires c.field.ensures.is c.entry-v.ensures.is
+returns c = vars_each _ _ _ c.requires c.field.ensures.is c.entry-v.ensures.is

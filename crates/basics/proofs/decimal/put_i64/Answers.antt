@@ -1,11 +1,11 @@
 use Rattle.basics.proofs.Laws.{wrote_as, wrote_then}
-use Rattle.basics.proofs.Signs.{text-negative, text-positive}
+use Rattle.basics.proofs.Signs.{text_negative, text_positive}
 use Rattle.basics.proofs.decimal.put_i64.Goals as goal
 
 pub returns-then-x-lt0 : goal.returns-then-x-lt0
 returns-then-x-lt0 c =
     wrote_as
-    (text-negative _
+    (text_negative _
     c.ranges.x
     c.if-x-lt0.true
     c.magnitude-m.ensures)
@@ -19,5 +19,5 @@ returns-then-x-lt0 c =
 pub returns-else-x-lt0 : goal.returns-else-x-lt0
 returns-else-x-lt0 c =
     wrote_as
-    (text-positive _ c.ranges.x c.if-x-lt0.false c.magnitude-m.ensures)
+    (text_positive _ c.ranges.x c.if-x-lt0.false c.magnitude-m.ensures)
     c.put_u64.ensures

@@ -1,4 +1,4 @@
-use Rattle.basics.proofs.Signs.{bits_are, high_fits, high-are}
+use Rattle.basics.proofs.Signs.{bits_are, high_fits, high_are}
 use Rattle.basics.proofs.decimal.signed.Goals as goal
 
 pub overflow_sub-result : goal.overflow_sub-result
@@ -8,4 +8,4 @@ pub returns-then-bits-lt-SIGN : goal.returns-then-bits-lt-SIGN
 returns-then-bits-lt-SIGN c = bits_are _
 
 pub returns-else-bits-lt-SIGN : goal.returns-else-bits-lt-SIGN
-returns-else-bits-lt-SIGN c = high-are _ c.if-bits-lt-SIGN.false c.ranges.bits.fits
+returns-else-bits-lt-SIGN c = high_are _ c.if-bits-lt-SIGN.false c.ranges.bits.fits

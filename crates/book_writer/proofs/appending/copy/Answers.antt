@@ -1,9 +1,9 @@
 use native.Mathlib.Omega.{arith}
-use Rattle.book_writer.proofs.Answers.{copied-short, copied-whole}
+use Rattle.book_writer.proofs.Answers.{copied_short, copied_whole}
 use Rattle.book_writer.proofs.appending.copy.Goals as goal
 
 pub returns-then-out-book : goal.returns-then-out-book
-returns-then-out-book c = copied-short _ _ (omega (arith, c.if-out-book.true))
+returns-then-out-book c = copied_short _ _ (omega (arith, c.if-out-book.true))
 
 pub returns : goal.returns
-returns c = copied-whole _ _ (omega (arith, c.if-out-book.false)) c.put_all.ensures
+returns c = copied_whole _ _ (omega (arith, c.if-out-book.false)) c.put_all.ensures

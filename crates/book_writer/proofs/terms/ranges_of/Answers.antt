@@ -1,5 +1,5 @@
 use Rattle.book_writer.specs.Growths.{ranges_of}
-use Rattle.book_writer.proofs.Fields.{ranges-other}
+use Rattle.book_writer.proofs.Fields.{ranges_other}
 use borrow.Author.Rules.{rules}
 use Rattle.book_writer.proofs.terms.ranges_of.Goals as goal
 
@@ -16,4 +16,4 @@ unfolding ranges_of
 returns-in-8 c = search rules
 
 pub returns-in_default : goal.returns-in_default
-returns-in_default c = ranges-other _ c.in_default.in_default-own.rest.0.0.1 c.in_default.in_default-own.rest.0.1 c.in_default.in_default-own.rest.1
+returns-in_default c = ranges_other _ c.in_default.in_default-own.rest.0.0.1 c.in_default.in_default-own.rest.0.1 c.in_default.in_default-own.rest.1

@@ -1,7 +1,7 @@
 use Prim.Native.Nat.{◌-◌}
 use mathlib.Core.Path.{refl, sym, ◌∙◌}
 use native.Mathlib.Omega.{arith}
-use Rattle.command_lines.proofs.Walking.{inside, end-here, end_later}
+use Rattle.command_lines.proofs.Walking.{inside, end_here, end_later}
 use Rattle.command_lines.proofs.lines.line_end.Goals as goal
 
 pub loop-i-init : goal.loop-i-init
@@ -17,4 +17,4 @@ pub loop-i-preserved : goal.loop-i-preserved
 loop-i-preserved c = c.loop-i.invariant ∙ end_later _ _ (λ z. c.loop-i-test.true (c.byte.ensures ∙ z))
 
 pub returns : goal.returns
-returns c = sym (c.loop-i.invariant ∙ end-here _ _ (sym c.byte.ensures ∙ c.loop-i-test.false))
+returns c = sym (c.loop-i.invariant ∙ end_here _ _ (sym c.byte.ensures ∙ c.loop-i-test.false))

@@ -5,15 +5,15 @@ use Rattle.basics.specs.Text.{same}
 use Rattle.book.specs.Book.{name_text}
 use Rattle.book.specs.Decode.{type_of}
 use Rattle.solver_expr.specs.SolverExpr.{type_to_string}
-use Rattle.records.proofs.Readers.{reads-term}
+use Rattle.records.proofs.Readers.{reads_term}
 use Rattle.literal_names.proofs.Naming.{by_name}
 use Rattle.literal_names.proofs.names.agrees.Goals as goal
 
 pub field-requires : goal.field-requires
-field-requires c = reads-term c.requires.0 2 (omega arith) c.requires.1
+field-requires c = reads_term c.requires.0 2 (omega arith) c.requires.1
 
 pub field-requires-then-field-sought : goal.field-requires-then-field-sought
-field-requires-then-field-sought c = reads-term c.requires.0 1 (omega arith) c.requires.1
+field-requires-then-field-sought c = reads_term c.requires.0 1 (omega arith) c.requires.1
 
 pub same_name-requires : goal.same_name-requires
 same_name-requires c = (c.requires.0, c.requires.3.here, omega (arith, c.field-then-field-sought.ensures.is, c.requires.2.name), c.requires.3.name)

@@ -5,9 +5,9 @@ use lib.ListN.{length}
 use Rattle.basics.specs.Text.{same}
 use Rattle.basics.proofs.Bool.{failed}
 use Rattle.book.specs.Book.{name_text}
-use Rattle.records.proofs.Readers.{reads-term}
+use Rattle.records.proofs.Readers.{reads_term}
 use Rattle.book_test.proofs.Names.{name-length}
-use Rattle.literal_names.proofs.Naming.{reads-record, by_length, by_front}
+use Rattle.literal_names.proofs.Naming.{reads_record, by_length, by_front}
 use Rattle.std.proofs.lemmas.Bool.{not_from_false}
 use Rattle.literal_names.proofs.names.has_name_of_other_type.Goals as goal
 
@@ -18,10 +18,10 @@ pub returns-then-s-typ : goal.returns-then-s-typ
 returns-then-s-typ c = by_length _ c.args.k c.args.s.now c.args.typ.now (λ e. c.if-s-typ.true (e ∙ sym c.name_length.ensures))
 
 pub field-n-requires : goal.field-n-requires
-field-n-requires c = reads-term c.requires.0 1 (omega arith) c.requires.1
+field-n-requires c = reads_term c.requires.0 1 (omega arith) c.requires.1
 
 pub field-requires : goal.field-requires
-field-requires c = reads-record _ c.requires.0 1 (omega arith) (omega (arith, c.field-n.ensures.is, c.requires.2.name))
+field-requires c = reads_record _ c.requires.0 1 (omega arith) (omega (arith, c.field-n.ensures.is, c.requires.2.name))
 
 pub has_name-requires : goal.has_name-requires
 has_name-requires c = (c.requires.0, c.requires.1, c.requires.2)

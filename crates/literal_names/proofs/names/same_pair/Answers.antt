@@ -3,8 +3,8 @@ use mathlib.Core.Bool.{Bool, ◌&&◌}
 use mathlib.Core.Path.{sym, ap, ◌∙◌}
 use Rattle.basics.specs.Text.{same}
 use Rattle.basics.proofs.Bool.{passed, failed}
-use Rattle.basics.proofs.Texts.{same-sym}
-use Rattle.literal_names.proofs.Pairs.{longer, one-colon}
+use Rattle.basics.proofs.Texts.{same_sym}
+use Rattle.literal_names.proofs.Pairs.{longer, one_colon}
 use Rattle.std.proofs.lemmas.Bool.{not_from_false, not_from_true}
 use Rattle.literal_names.proofs.names.same_pair.Goals as goal
 
@@ -27,10 +27,10 @@ pub same_split-requires-then-s2-s : goal.same_split-requires-then-s2-s
 same_split-requires-then-s2-s c = (c.if-s2-s.true, sym c.if-s-typ.false)
 
 pub returns-then-s2-s : goal.returns-then-s2-s
-returns-then-s2-s c = c.same_split-then-s2-s.ensures ∙ same-sym _ _
+returns-then-s2-s c = c.same_split-then-s2-s.ensures ∙ same_sym _ _
 
 pub returns-then-not-same : goal.returns-then-not-same
-returns-then-not-same c = sym (one-colon c.args.s.now c.args.typ.now c.args.s2.now c.args.typ2.now (omega arith) ∙ ap (λ (t : Bool). t && same c.args.typ.now c.args.typ2.now) (failed c.same.ensures (not_from_false _ c.if-not-same.true)))
+returns-then-not-same c = sym (one_colon c.args.s.now c.args.typ.now c.args.s2.now c.args.typ2.now (omega arith) ∙ ap (λ (t : Bool). t && same c.args.typ.now c.args.typ2.now) (failed c.same.ensures (not_from_false _ c.if-not-same.true)))
 
 pub returns : goal.returns
-returns c = sym (one-colon c.args.s.now c.args.typ.now c.args.s2.now c.args.typ2.now (omega arith) ∙ ap (λ (t : Bool). t && same c.args.typ.now c.args.typ2.now) (passed c.same.ensures (not_from_true _ c.if-not-same.false)) ∙ sym c.same-2.ensures)
+returns c = sym (one_colon c.args.s.now c.args.typ.now c.args.s2.now c.args.typ2.now (omega arith) ∙ ap (λ (t : Bool). t && same c.args.typ.now c.args.typ2.now) (passed c.same.ensures (not_from_true _ c.if-not-same.false)) ∙ sym c.same-2.ensures)

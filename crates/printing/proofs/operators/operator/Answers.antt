@@ -1,4 +1,4 @@
-use Rattle.printing.proofs.OperatorCalls.{named, no-name-low, no-name-high}
+use Rattle.printing.proofs.OperatorCalls.{named, no_name_low, no_name_high}
 use Rattle.printing.proofs.operators.operator.Goals as goal
 
 pub returns-in-1-to-14 : goal.returns-in-1-to-14
@@ -7,8 +7,8 @@ returns-in-1-to-14 c =
 
 pub returns-in_default : goal.returns-in_default
 returns-in_default c =
-    let e = (no-name-low _ c.in_default.if-code-lt1-own.true) in record { answer = e.0; text = e.1 }
+    let e = (no_name_low _ c.in_default.if-code-lt1-own.true) in record { answer = e.0; text = e.1 }
 
 pub returns-in_default-2 : goal.returns-in_default-2
 returns-in_default-2 c =
-    let e = (no-name-high _ _ c.in_default.if-code-lt15-own.false) in record { answer = e.0; text = e.1 }
+    let e = (no_name_high _ _ c.in_default.if-code-lt15-own.false) in record { answer = e.0; text = e.1 }

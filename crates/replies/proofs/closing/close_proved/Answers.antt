@@ -3,12 +3,12 @@ use mathlib.Core.Path.{refl}
 use mathlib.Core.List.{[]}
 use Rattle.basics.specs.Write.{overlay_at}
 use Rattle.solvers.specs.Session.{Proved, text_of, closed}
-use Rattle.solvers.proofs.Returned.{text-long, proved}
+use Rattle.solvers.proofs.Returned.{text_long, proved}
 use Rattle.replies.proofs.closing.close_proved.Goals as goal
 
 pub returns-then-text-length : goal.returns-then-text-length
 unfolding text_of closed
-returns-then-text-length c = text-long _ (closed c.args.session Proved) _ [] c.two_pops-length.ensures.counted c.if-text-length.true c.refused.ensures
+returns-then-text-length c = text_long _ (closed c.args.session Proved) _ [] c.two_pops-length.ensures.counted c.if-text-length.true c.refused.ensures
 
 pub returns : goal.returns
 unfolding text_of closed overlay_at

@@ -1,6 +1,6 @@
 use Rattle.basics.proofs.Bool.{passed, failed}
 use Rattle.solvers.specs.Calls.{owes}
-use Rattle.replies.proofs.Behind.{model-outside, model-not-owed, model-owed}
+use Rattle.replies.proofs.Behind.{model_outside, model_not_owed, model-owed}
 use Rattle.std.proofs.lemmas.Bool.{not_from_false, not_from_true}
 use Rattle.replies.proofs.model.model_in.Goals as goal
 
@@ -8,7 +8,7 @@ pub is_session-requires : goal.is_session-requires
 is_session-requires c = c.requires
 
 pub returns-then-not-is_session : goal.returns-then-not-is_session
-returns-then-not-is_session c = model-outside _ _ _ _ _ _ (failed c.is_session.ensures (not_from_false _ c.if-not-is_session.true)) c.refused.ensures
+returns-then-not-is_session c = model_outside _ _ _ _ _ _ (failed c.is_session.ensures (not_from_false _ c.if-not-is_session.true)) c.refused.ensures
 
 pub returns-in-Model : goal.returns-in-Model
 unfolding owes
@@ -16,8 +16,8 @@ returns-in-Model c = model-owed _ _ _ _ _ _ (passed c.is_session.ensures (not_fr
 
 pub returns-in-Nothing : goal.returns-in-Nothing
 unfolding owes
-returns-in-Nothing c = model-not-owed _ _ _ _ _ _ (passed c.is_session.ensures (not_from_true _ c.if-not-is_session.false)) (rw c.in-Nothing.is) c.refused-in-Nothing.ensures
+returns-in-Nothing c = model_not_owed _ _ _ _ _ _ (passed c.is_session.ensures (not_from_true _ c.if-not-is_session.false)) (rw c.in-Nothing.is) c.refused-in-Nothing.ensures
 
 pub returns-in-Reply : goal.returns-in-Reply
 unfolding owes
-returns-in-Reply c = model-not-owed _ _ _ _ _ _ (passed c.is_session.ensures (not_from_true _ c.if-not-is_session.false)) (rw c.in-Reply.is) c.refused-in-Reply.ensures
+returns-in-Reply c = model_not_owed _ _ _ _ _ _ (passed c.is_session.ensures (not_from_true _ c.if-not-is_session.false)) (rw c.in-Reply.is) c.refused-in-Reply.ensures

@@ -1,6 +1,6 @@
 use Rattle.basics.proofs.Bool.{passed, failed}
 use Rattle.solvers.specs.Calls.{owes}
-use Rattle.replies.proofs.Behind.{reply-outside, reply-not-owed, reply-owed}
+use Rattle.replies.proofs.Behind.{reply_outside, reply_not_owed, reply-owed}
 use Rattle.std.proofs.lemmas.Bool.{not_from_false, not_from_true}
 use Rattle.replies.proofs.reply.reply_in.Goals as goal
 
@@ -8,7 +8,7 @@ pub is_session-requires : goal.is_session-requires
 is_session-requires c = c.requires
 
 pub returns-then-not-is_session : goal.returns-then-not-is_session
-returns-then-not-is_session c = reply-outside _ _ _ _ _ _ (failed c.is_session.ensures (not_from_false _ c.if-not-is_session.true)) c.refused.ensures
+returns-then-not-is_session c = reply_outside _ _ _ _ _ _ (failed c.is_session.ensures (not_from_false _ c.if-not-is_session.true)) c.refused.ensures
 
 pub returns-in-Reply : goal.returns-in-Reply
 unfolding owes
@@ -16,8 +16,8 @@ returns-in-Reply c = reply-owed _ _ _ _ _ _ (passed c.is_session.ensures (not_fr
 
 pub returns-in-Nothing : goal.returns-in-Nothing
 unfolding owes
-returns-in-Nothing c = reply-not-owed _ _ _ _ _ _ (passed c.is_session.ensures (not_from_true _ c.if-not-is_session.false)) (rw c.in-Nothing.is) c.refused-in-Nothing.ensures
+returns-in-Nothing c = reply_not_owed _ _ _ _ _ _ (passed c.is_session.ensures (not_from_true _ c.if-not-is_session.false)) (rw c.in-Nothing.is) c.refused-in-Nothing.ensures
 
 pub returns-in-Model : goal.returns-in-Model
 unfolding owes
-returns-in-Model c = reply-not-owed _ _ _ _ _ _ (passed c.is_session.ensures (not_from_true _ c.if-not-is_session.false)) (rw c.in-Model.is) c.refused-in-Model.ensures
+returns-in-Model c = reply_not_owed _ _ _ _ _ _ (passed c.is_session.ensures (not_from_true _ c.if-not-is_session.false)) (rw c.in-Model.is) c.refused-in-Model.ensures

@@ -9,20 +9,20 @@ returns : tie.Need-returns
 unfolding is_refused answer_value
 returns c = sym (ap is_refused (ap answer_value c.before.answer.given.1))
 
-returns-2 : tie.Need-returns-2
+returns_2 : tie.Need-returns-2
 unfolding is_refused answer_value
-returns-2 c = sym (ap is_refused (ap answer_value c.before.answer2.given.1))
+returns_2 c = sym (ap is_refused (ap answer_value c.before.answer2.given.1))
 
-returns-3 : tie.Need-returns-3
+returns_3 : tie.Need-returns-3
 unfolding is_refused answer_value
-returns-3 c = sym (ap is_refused (ap answer_value c.before.answer3.given.1))
+returns_3 c = sym (ap is_refused (ap answer_value c.before.answer3.given.1))
 
-returns-4 : tie.Need-returns-4
+returns_4 : tie.Need-returns-4
 unfolding is_refused answer_value
-returns-4 c = sym (ap is_refused (ap answer_value c.before.answer4.given.1))
+returns_4 c = sym (ap is_refused (ap answer_value c.before.answer4.given.1))
 
-pub is-refused-spec : {M : Type 1} → statement M
-is-refused-spec =
+pub is_refused_spec : {M : Type 1} → statement M
+is_refused_spec =
     tie.close
     (tie.spec
     (λ c. search rules)
@@ -30,6 +30,6 @@ is-refused-spec =
     (λ c. search rules)
     (λ c. search rules)
     returns
-    returns-2
-    returns-3
-    returns-4)
+    returns_2
+    returns_3
+    returns_4)

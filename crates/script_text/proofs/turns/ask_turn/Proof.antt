@@ -61,7 +61,7 @@ use Rattle.script_text.specs.Turned.{Desk, Tells, is_refused, Turned, Closes}
 use Rattle.script_text.specs.Script.{text_size, asking, turn}
 use Rattle.script_text.proofs.Again as again
 use Rattle.script_text.proofs.Again.{forks, holds, fails}
-use Rattle.script_text.proofs.Turning.{ask-refused, ask-replied}
+use Rattle.script_text.proofs.Turning.{ask_refused, ask_replied}
 use Rattle.lent_sessions.specs.contracts.ask_mut as am
 use Rattle.lent_sessions.proofs.ask_mut.Symbol as am-def
 use Rattle.lent_sessions.proofs.ask_mut.Symbol.{name as #lent-sessions·ask-mut}
@@ -86,17 +86,17 @@ use Rattle.script_text.proofs.turns.ask_turn.Code as code
 abbrev stayed : Stays (self.ended).signature.params (self.ended).kept
 stayed = (gave_ref (0 ∷ []) tt (plain (λ _. T.the_row)), (stay_dropped (shr_slice_of (1 ∷ []) tt (plain (λ _. u8))) yes, (gave_slice (2 ∷ []) tt (plain (λ _. u8)), (stay_dropped (plain (λ _. u32)) yes, (stay_dropped (plain (λ _. u32)) yes, (gave_slice (3 ∷ []) tt (plain (λ _. u8)), (gave_slice (4 ∷ []) tt (plain (λ _. u8)), tt)))))))
 
-abbrev am-of : {M : Type 1} {𝓤 : Ura M} (𝓛 : Logic 𝓤) (mem : Memory → SProp 𝓤) (run : Routine → Fun 𝓤) → Contract 𝓤
-am-of 𝓛 mem run = triple_of 𝓛 am.signature (am.spec 𝓛 mem run)
+abbrev am_of : {M : Type 1} {𝓤 : Ura M} (𝓛 : Logic 𝓤) (mem : Memory → SProp 𝓤) (run : Routine → Fun 𝓤) → Contract 𝓤
+am_of 𝓛 mem run = triple_of 𝓛 am.signature (am.spec 𝓛 mem run)
 
-abbrev askt-of : {M : Type 1} {𝓤 : Ura M} (𝓛 : Logic 𝓤) (mem : Memory → SProp 𝓤) (run : Routine → Fun 𝓤) → Contract 𝓤
-askt-of 𝓛 mem run = triple_of 𝓛 askt.signature (askt.spec 𝓛 mem run)
+abbrev askt_of : {M : Type 1} {𝓤 : Ura M} (𝓛 : Logic 𝓤) (mem : Memory → SProp 𝓤) (run : Routine → Fun 𝓤) → Contract 𝓤
+askt_of 𝓛 mem run = triple_of 𝓛 askt.signature (askt.spec 𝓛 mem run)
 
-abbrev alonet-of : {M : Type 1} {𝓤 : Ura M} (𝓛 : Logic 𝓤) (mem : Memory → SProp 𝓤) (run : Routine → Fun 𝓤) → Contract 𝓤
-alonet-of 𝓛 mem run = triple_of 𝓛 alonet.signature (alonet.spec 𝓛 mem run)
+abbrev alonet_of : {M : Type 1} {𝓤 : Ura M} (𝓛 : Logic 𝓤) (mem : Memory → SProp 𝓤) (run : Routine → Fun 𝓤) → Contract 𝓤
+alonet_of 𝓛 mem run = triple_of 𝓛 alonet.signature (alonet.spec 𝓛 mem run)
 
-abbrev replyu-of : {M : Type 1} {𝓤 : Ura M} (𝓛 : Logic 𝓤) (mem : Memory → SProp 𝓤) (run : Routine → Fun 𝓤) → Contract 𝓤
-replyu-of 𝓛 mem run = triple_of 𝓛 replyu.signature (replyu.spec 𝓛 mem run)
+abbrev replyu_of : {M : Type 1} {𝓤 : Ura M} (𝓛 : Logic 𝓤) (mem : Memory → SProp 𝓤) (run : Routine → Fun 𝓤) → Contract 𝓤
+replyu_of 𝓛 mem run = triple_of 𝓛 replyu.signature (replyu.spec 𝓛 mem run)
 
 abbrev sv : Session → Val
 sv = LL.val T.the_type T'.the_laws
@@ -117,10 +117,10 @@ module _ {M : Type 1} {𝓤 : Ura M} (𝓛 : Logic 𝓤) (at_mem : Memory → SP
   Post = (walk_of 𝓛 self.ended stayed (self.clauses 𝓛 at_mem run)).post (((κ0, (κ1, (κ2, (κ3, (κ4, tt))))), (q0, (q1, (q2, (q3, (q4, tt))))), tt, a, vals), tt)
 
   exits : (r : Turn) (s' : Session) (sc' : List ℕ) (tx' : List ℕ) (cl' : List ℕ) → Turned (turn bk.now h (asking n t)) r s' tx' cl' → length sc' ≡ length sc.now → length tx' ≡ length tx.now → length cl' ≡ length cl.now → Is TU.the_row r (LL.val TU.the_type TU'.the_laws r ∷ []) → ent 𝓤 (⋆ 𝓛 (‵ (flft κ0 q0) ∷ ‵ (flft κ1 q1) ∷ ‵ (flft κ2 q2) ∷ ‵ (flft κ3 q3) ∷ ‵ (flft κ4 q4) ∷ ‵ (fres γ ((T.the_row).coded.code s')) ∷ ‵ (finally u8 sc.ghost_name sc') ∷ ‵ (finally u8 tx.ghost_name tx') ∷ ‵ (finally u8 cl.ghost_name cl') ∷ [])) (Post (LL.val TU.the_type TU'.the_laws r))
-  exits r s' sc' tx' cl' e l-sc l-tx l-cl is =
-      qed 𝓛 (‵ (flft κ0 q0) ∷ ‵ (flft κ1 q1) ∷ ‵ (flft κ2 q2) ∷ ‵ (flft κ3 q3) ∷ ‵ (flft κ4 q4) ∷ ‵ (fres γ ((T.the_row).coded.code s')) ∷ ‵ (finally u8 sc.name sc') ∷ ‵ (finally u8 tx.name tx') ∷ ‵ (finally u8 cl.name cl') ∷ []) ∵ suffices ! _ (ends_at 𝓛 self.ended stayed (self.clauses 𝓛 at_mem run) (((κ0, (κ1, (κ2, (κ3, (κ4, tt))))), (q0, (q1, (q2, (q3, (q4, tt))))), tt, a, vals), tt) (LL.val TU.the_type TU'.the_laws r) r (s', (tt, (sc', (tt, (tt, (tx', (cl', tt))))))) (tt, (tt, (l-sc, (tt, (tt, (l-tx, (l-cl, tt)))))))) $ says ! e $ nothing ! $ move ! (5 ∷ 0 ∷ []) $ join ! $ move ! (4 ∷ 0 ∷ []) $ join ! $ move ! (3 ∷ 0 ∷ []) $ join ! $ move ! (2 ∷ 0 ∷ []) $ join ! $ move ! (1 ∷ 0 ∷ []) $ join ! $ frame ! $ nothing ! $ move ! (4 ∷ 0 ∷ []) $ fjoin ! $ move ! (3 ∷ 0 ∷ []) $ fjoin ! $ nothing ! $ fjoin ! $ nothing ! $ fjoin ! $ move ! (2 ∷ 0 ∷ []) $ fjoin ! $ nothing ! $ fjoin ! $ move ! (1 ∷ 0 ∷ []) $ fjoin ! $ owned ! TU.the_row (Is TU.the_row) (LL.makes TU.the_type TU'.the_plain 𝓛) r _ is $ move ! (1 ∷ 0 ∷ []) $ done !
+  exits r s' sc' tx' cl' e l_sc l_tx l_cl is =
+      qed 𝓛 (‵ (flft κ0 q0) ∷ ‵ (flft κ1 q1) ∷ ‵ (flft κ2 q2) ∷ ‵ (flft κ3 q3) ∷ ‵ (flft κ4 q4) ∷ ‵ (fres γ ((T.the_row).coded.code s')) ∷ ‵ (finally u8 sc.name sc') ∷ ‵ (finally u8 tx.name tx') ∷ ‵ (finally u8 cl.name cl') ∷ []) ∵ suffices ! _ (ends_at 𝓛 self.ended stayed (self.clauses 𝓛 at_mem run) (((κ0, (κ1, (κ2, (κ3, (κ4, tt))))), (q0, (q1, (q2, (q3, (q4, tt))))), tt, a, vals), tt) (LL.val TU.the_type TU'.the_laws r) r (s', (tt, (sc', (tt, (tt, (tx', (cl', tt))))))) (tt, (tt, (l_sc, (tt, (tt, (l_tx, (l_cl, tt)))))))) $ says ! e $ nothing ! $ move ! (5 ∷ 0 ∷ []) $ join ! $ move ! (4 ∷ 0 ∷ []) $ join ! $ move ! (3 ∷ 0 ∷ []) $ join ! $ move ! (2 ∷ 0 ∷ []) $ join ! $ move ! (1 ∷ 0 ∷ []) $ join ! $ frame ! $ nothing ! $ move ! (4 ∷ 0 ∷ []) $ fjoin ! $ move ! (3 ∷ 0 ∷ []) $ fjoin ! $ nothing ! $ fjoin ! $ nothing ! $ fjoin ! $ move ! (2 ∷ 0 ∷ []) $ fjoin ! $ nothing ! $ fjoin ! $ move ! (1 ∷ 0 ∷ []) $ fjoin ! $ owned ! TU.the_row (Is TU.the_row) (LL.makes TU.the_type TU'.the_plain 𝓛) r _ is $ move ! (1 ∷ 0 ∷ []) $ done !
 
-  module _ (C : Calls 𝓤 H) (Λ : Loops 𝓤 H) (fm : FmC 𝓤 H 𝓛.laws C) (known-am : Triple 𝓤 (C #lent-sessions·ask-mut) (am-of 𝓛 at_mem run)) (known-askt : Triple 𝓤 (C #script-text·answers·ask-told) (askt-of 𝓛 at_mem run)) (known-alonet : Triple 𝓤 (C #script-text·answers·alone) (alonet-of 𝓛 at_mem run)) (known-replyu : Triple 𝓤 (C #script-text·turns·reply-turn) (replyu-of 𝓛 at_mem run)) where
+  module _ (C : Calls 𝓤 H) (Λ : Loops 𝓤 H) (fm : FmC 𝓤 H 𝓛.laws C) (known-am : Triple 𝓤 (C #lent-sessions·ask-mut) (am_of 𝓛 at_mem run)) (known-askt : Triple 𝓤 (C #script-text·answers·ask-told) (askt_of 𝓛 at_mem run)) (known-alonet : Triple 𝓤 (C #script-text·answers·alone) (alonet_of 𝓛 at_mem run)) (known-replyu : Triple 𝓤 (C #script-text·turns·reply-turn) (replyu_of 𝓛 at_mem run)) where
     walk : Is (ShrSlice (named 1) κ1 u8) bk (slice_val bk.ref_ptr (length bk.now) ∷ []) → Room u8 (length sc.now) → n < 2 ^ 32 → t < 2 ^ 32 → Room u8 (length tx.now) → Room u8 (length cl.now) → Desk sc.now tx.now × (length cl.now ≡ text_size) → ent 𝓤 (on_entry 𝓛 self.signature (κ0, (κ1, (κ2, (κ3, (κ4, tt))))) (q0, (q1, (q2, (q3, (q4, tt))))) a vals) (WpFn 𝓤 H C Λ code.function (vptr b o ∷ slice_val bk.ref_ptr (length bk.now) ∷ slice_val sc.ref_ptr (length sc.now) ∷ vint w32 n ∷ vint w32 t ∷ slice_val tx.ref_ptr (length tx.now) ∷ slice_val cl.ref_ptr (length cl.now) ∷ []) Post)
     walk is-bk room_Sc fits-n fits-t room-tx room-cl req =
         qed 𝓛 ((‵ (flft κ0 q0) ⊛ ‵ (flft κ1 q1) ⊛ ‵ (flft κ2 q2) ⊛ ‵ (flft κ3 q3) ⊛ ‵ (flft κ4 q4) ⊛ ‵ ftrue) ∷ ‵ (owns (MutRef (named 0) κ0 T.the_row ∷ ShrSlice (named 1) κ1 u8 ∷ MutSlice (named 2) κ2 u8 ∷ u32 ∷ u32 ∷ MutSlice (named 3) κ3 u8 ∷ MutSlice (named 4) κ4 u8 ∷ []) a vals) ∷ []) ∵ enter ! C Λ code.function (vptr b o ∷ slice_val bk.ref_ptr (length bk.now) ∷ slice_val sc.ref_ptr (length sc.now) ∷ vint w32 n ∷ vint w32 t ∷ slice_val tx.ref_ptr (length tx.now) ∷ slice_val cl.ref_ptr (length cl.now) ∷ []) _ $
@@ -145,8 +145,8 @@ module _ {M : Type 1} {𝓤 : Ura M} (𝓛 : Logic 𝓤) (at_mem : Memory → SP
         lft_new ! tt (λ ν1-tx. move ! (13 ∷ 10 ∷ []) $
         use2 𝓛 (later (some (λ (δ : GName). ‵ ((MutSlice (named 3) (ν1-tx ∷ []) u8).own_val (record { ref_ptr = tx.ref_ptr; ghost_name = δ; now = tx.now }) (slice_val tx.ref_ptr (length tx.now) ∷ [])) ⊛ ‵ (again.LentAgain u8 κ3 (ν1-tx ∷ []) q3 tx.ghost_name tx.ref_ptr.0 tx.ref_ptr.1 δ tx.now)))) (again.lends_again u8 κ3 (ν1-tx ∷ []) q3 tx.ghost_name tx.ref_ptr.0 tx.ref_ptr.1 𝓛 (named 3) (named 3) tx.now (length tx.now)) $ await ! tt $ pick ! (λ δ1-tx. split ! $
         move ! (10 ∷ 12 ∷ 5 ∷ 2 ∷ 8 ∷ 6 ∷ 3 ∷ 0 ∷ []) $ group ! 8 $
-        use1 𝓛 (raw ((am-of 𝓛 at_mem run).pre ((((ν1-s ∷ []), (κ1, ((ν1-sc ∷ []), ((ν1-tx ∷ []), tt)))), (full_share, (q1, (full_share, (full_share, tt)))), tt, ((record { ref_ptr = (b, o); ghost_name = δ1-s; now = h }), (bk, ((record { ref_ptr = sc.ref_ptr; ghost_name = δ1-sc; now = sc.now }), (n, (t, ((record { ref_ptr = tx.ref_ptr; ghost_name = δ1-tx; now = tx.now }), tt)))))), (vptr b o ∷ [], (slice_val bk.ref_ptr (length bk.now) ∷ [], (slice_val sc.ref_ptr (length sc.now) ∷ [], (vint w32 n ∷ [], (vint w32 t ∷ [], (slice_val tx.ref_ptr (length tx.now) ∷ [], tt))))))), tt))) (qed 𝓛 (‵ (flft ((ν1-s ∷ [])) full_share) ∷ ‵ (flft κ1 q1) ∷ ‵ (flft ((ν1-sc ∷ [])) full_share) ∷ ‵ (flft ((ν1-tx ∷ [])) full_share) ∷ ‵ ((MutRef (named 0) (ν1-s ∷ []) T.the_row).own_val (record { ref_ptr = (b, o); ghost_name = δ1-s; now = h }) (vptr b o ∷ [])) ∷ ‵ ((ShrSlice (named 1) κ1 u8).own_val bk (slice_val bk.ref_ptr (length bk.now) ∷ [])) ∷ ‵ ((MutSlice (named 2) (ν1-sc ∷ []) u8).own_val (record { ref_ptr = sc.ref_ptr; ghost_name = δ1-sc; now = sc.now }) (slice_val sc.ref_ptr (length sc.now) ∷ [])) ∷ ‵ ((MutSlice (named 3) (ν1-tx ∷ []) u8).own_val (record { ref_ptr = tx.ref_ptr; ghost_name = δ1-tx; now = tx.now }) (slice_val tx.ref_ptr (length tx.now) ∷ [])) ∷ []) ∵ nothing ! $ move ! (8 ∷ 0 ∷ []) $ fjoin ! $ owned ! u32 (Is u32) (uint_Makes 𝓛 w32) t _ ((refl, fits-t)) $ fjoin ! $ owned ! u32 (Is u32) (uint_Makes 𝓛 w32) n _ ((refl, fits-n)) $ fjoin ! $ move ! (7 ∷ 0 ∷ []) $ fjoin ! $ move ! (6 ∷ 0 ∷ []) $ fjoin ! $ move ! (5 ∷ 0 ∷ []) $ fjoin ! $ nothing ! $ move ! (5 ∷ 0 ∷ []) $ join ! $ move ! (4 ∷ 0 ∷ []) $ join ! $ move ! (3 ∷ 0 ∷ []) $ join ! $ move ! (2 ∷ 0 ∷ []) $ join ! $ join ! $ frame ! $ done !) $
-        calls_at ! fm (am-of 𝓛 at_mem run) known-am ((((ν1-s ∷ []), (κ1, ((ν1-sc ∷ []), ((ν1-tx ∷ []), tt)))), (full_share, (q1, (full_share, (full_share, tt)))), tt, ((record { ref_ptr = (b, o); ghost_name = δ1-s; now = h }), (bk, ((record { ref_ptr = sc.ref_ptr; ghost_name = δ1-sc; now = sc.now }), (n, (t, ((record { ref_ptr = tx.ref_ptr; ghost_name = δ1-tx; now = tx.now }), tt)))))), (vptr b o ∷ [], (slice_val bk.ref_ptr (length bk.now) ∷ [], (slice_val sc.ref_ptr (length sc.now) ∷ [], (vint w32 n ∷ [], (vint w32 t ∷ [], (slice_val tx.ref_ptr (length tx.now) ∷ [], tt))))))), tt) (and_then ! (load ! (from ! (stop !)) (look ! 31 refl)) (and_then ! (load ! (from ! (stop !)) (look ! 47 refl)) (and_then ! (load ! (from ! (stop !)) (look ! 27 refl)) (and_then ! (load ! (from ! (stop !)) (look ! 43 refl)) (and_then ! (load ! (from ! (stop !)) (look ! 41 refl)) (and_then ! (load ! (from ! (stop !)) (look ! 23 refl)) (no_more !))))))) (λ w1.
+        use1 𝓛 (raw ((am_of 𝓛 at_mem run).pre ((((ν1-s ∷ []), (κ1, ((ν1-sc ∷ []), ((ν1-tx ∷ []), tt)))), (full_share, (q1, (full_share, (full_share, tt)))), tt, ((record { ref_ptr = (b, o); ghost_name = δ1-s; now = h }), (bk, ((record { ref_ptr = sc.ref_ptr; ghost_name = δ1-sc; now = sc.now }), (n, (t, ((record { ref_ptr = tx.ref_ptr; ghost_name = δ1-tx; now = tx.now }), tt)))))), (vptr b o ∷ [], (slice_val bk.ref_ptr (length bk.now) ∷ [], (slice_val sc.ref_ptr (length sc.now) ∷ [], (vint w32 n ∷ [], (vint w32 t ∷ [], (slice_val tx.ref_ptr (length tx.now) ∷ [], tt))))))), tt))) (qed 𝓛 (‵ (flft ((ν1-s ∷ [])) full_share) ∷ ‵ (flft κ1 q1) ∷ ‵ (flft ((ν1-sc ∷ [])) full_share) ∷ ‵ (flft ((ν1-tx ∷ [])) full_share) ∷ ‵ ((MutRef (named 0) (ν1-s ∷ []) T.the_row).own_val (record { ref_ptr = (b, o); ghost_name = δ1-s; now = h }) (vptr b o ∷ [])) ∷ ‵ ((ShrSlice (named 1) κ1 u8).own_val bk (slice_val bk.ref_ptr (length bk.now) ∷ [])) ∷ ‵ ((MutSlice (named 2) (ν1-sc ∷ []) u8).own_val (record { ref_ptr = sc.ref_ptr; ghost_name = δ1-sc; now = sc.now }) (slice_val sc.ref_ptr (length sc.now) ∷ [])) ∷ ‵ ((MutSlice (named 3) (ν1-tx ∷ []) u8).own_val (record { ref_ptr = tx.ref_ptr; ghost_name = δ1-tx; now = tx.now }) (slice_val tx.ref_ptr (length tx.now) ∷ [])) ∷ []) ∵ nothing ! $ move ! (8 ∷ 0 ∷ []) $ fjoin ! $ owned ! u32 (Is u32) (uint_Makes 𝓛 w32) t _ ((refl, fits-t)) $ fjoin ! $ owned ! u32 (Is u32) (uint_Makes 𝓛 w32) n _ ((refl, fits-n)) $ fjoin ! $ move ! (7 ∷ 0 ∷ []) $ fjoin ! $ move ! (6 ∷ 0 ∷ []) $ fjoin ! $ move ! (5 ∷ 0 ∷ []) $ fjoin ! $ nothing ! $ move ! (5 ∷ 0 ∷ []) $ join ! $ move ! (4 ∷ 0 ∷ []) $ join ! $ move ! (3 ∷ 0 ∷ []) $ join ! $ move ! (2 ∷ 0 ∷ []) $ join ! $ join ! $ frame ! $ done !) $
+        calls_at ! fm (am_of 𝓛 at_mem run) known-am ((((ν1-s ∷ []), (κ1, ((ν1-sc ∷ []), ((ν1-tx ∷ []), tt)))), (full_share, (q1, (full_share, (full_share, tt)))), tt, ((record { ref_ptr = (b, o); ghost_name = δ1-s; now = h }), (bk, ((record { ref_ptr = sc.ref_ptr; ghost_name = δ1-sc; now = sc.now }), (n, (t, ((record { ref_ptr = tx.ref_ptr; ghost_name = δ1-tx; now = tx.now }), tt)))))), (vptr b o ∷ [], (slice_val bk.ref_ptr (length bk.now) ∷ [], (slice_val sc.ref_ptr (length sc.now) ∷ [], (vint w32 n ∷ [], (vint w32 t ∷ [], (slice_val tx.ref_ptr (length tx.now) ∷ [], tt))))))), tt) (and_then ! (load ! (from ! (stop !)) (look ! 31 refl)) (and_then ! (load ! (from ! (stop !)) (look ! 47 refl)) (and_then ! (load ! (from ! (stop !)) (look ! 27 refl)) (and_then ! (load ! (from ! (stop !)) (look ! 43 refl)) (and_then ! (load ! (from ! (stop !)) (look ! 41 refl)) (and_then ! (load ! (from ! (stop !)) (look ! 23 refl)) (no_more !))))))) (λ w1.
         use1 𝓛 (later (some (λ (r : Answer). ((‵ (flft ((ν1-s ∷ [])) full_share) ⊛ ‵ (flft κ1 q1) ⊛ ‵ (flft ((ν1-sc ∷ [])) full_share) ⊛ ‵ (flft ((ν1-tx ∷ [])) full_share) ⊛ ‵ ftrue) ⊛ ‵ ((E.the_row).own_val r (w1 ∷ []))) ⊛ raw (ensured 𝓛 am.ended (am.clauses 𝓛 at_mem run) ((ν1-s ∷ []), (κ1, ((ν1-sc ∷ []), ((ν1-tx ∷ []), tt)))) ((record { ref_ptr = (b, o); ghost_name = δ1-s; now = h }), (bk, ((record { ref_ptr = sc.ref_ptr; ghost_name = δ1-sc; now = sc.now }), (n, (t, ((record { ref_ptr = tx.ref_ptr; ghost_name = δ1-tx; now = tx.now }), tt)))))) tt r)))) (id⊢ 𝓤 _) $ await ! tt $ pick ! (λ r1.
         split ! $ move ! (1 ∷ []) $ use1 𝓛 (some (λ (zs : (Session × (Unit {0} × (List ℕ × (Unit {0} × (Unit {0} × (List ℕ × Unit {0}))))))). ‵ (lasts am.ended ((ν1-s ∷ []), (κ1, ((ν1-sc ∷ []), ((ν1-tx ∷ []), tt)))) ((record { ref_ptr = (b, o); ghost_name = δ1-s; now = h }), (bk, ((record { ref_ptr = sc.ref_ptr; ghost_name = δ1-sc; now = sc.now }), (n, (t, ((record { ref_ptr = tx.ref_ptr; ghost_name = δ1-tx; now = tx.now }), tt)))))) zs) ⊛ raw (fact 𝓤 (Returned (called bk.now (record { ref_ptr = (b, o); ghost_name = δ1-s; now = h }).now (ask_for (lent (record { ref_ptr = sc.ref_ptr; ghost_name = δ1-sc; now = sc.now }).now (record { ref_ptr = tx.ref_ptr; ghost_name = δ1-tx; now = tx.now }).now []) n t)) (record { answer = r1; session = zs.0 }) zs.1.1.1.1.1.0 [] zs.1.1.0)))) (id⊢ 𝓤 _) $ pick ! (λ zs1.
         split ! $ move ! (1 ∷ []) $ heard ! (Returned (called bk.now (record { ref_ptr = (b, o); ghost_name = δ1-s; now = h }).now (ask_for (lent (record { ref_ptr = sc.ref_ptr; ghost_name = δ1-sc; now = sc.now }).now (record { ref_ptr = tx.ref_ptr; ghost_name = δ1-tx; now = tx.now }).now []) n t)) (record { answer = r1; session = zs1.0 }) zs1.1.1.1.1.1.0 [] zs1.1.1.0) (λ e1.
@@ -165,8 +165,8 @@ module _ {M : Type 1} {𝓤 : Ura M} (𝓛 : Logic 𝓤) (at_mem : Memory → SP
         assigns ! (agg ! (and_then ! (load ! (from ! (stop !)) (look ! 24 refl)) (and_then ! (load ! (from ! (fld ! refl (stop !))) (look_in ! 42 (sub ! 1 refl (whole !)))) (no_more !)))) (from ! (stop !)) (init ! 22 refl ((tt, (tt, (record { fits = room-tx.0 }, tt))))) $
         -- `ask_told`
         move ! (1 ∷ 0 ∷ []) $ group ! 2 $
-        use1 𝓛 (raw ((askt-of 𝓛 at_mem run).pre (((κ3, tt), (q3, tt), tt, (r1, ((record { ref_ptr = tx.ref_ptr; ghost_name = tx.ghost_name; now = zs1.1.1.1.1.1.0 }), tt)), (EL.val E.the_type E'.the_laws r1 ∷ [], (slice_val tx.ref_ptr (length tx.now) ∷ [], tt))), tt))) (qed 𝓛 (‵ (flft κ3 q3) ∷ ‵ ((MutSlice (named 0) κ3 u8).own_val (record { ref_ptr = tx.ref_ptr; ghost_name = tx.ghost_name; now = zs1.1.1.1.1.1.0 }) (slice_val tx.ref_ptr (length tx.now) ∷ [])) ∷ []) ∵ says ! (l1-5 ∙ req.0.text-length) $ nothing ! $ move ! (2 ∷ 0 ∷ []) $ fjoin ! $ owned ! E.the_row (Is E.the_row) (EL.makes E.the_type E'.the_plain 𝓛) r1 _ is1 $ fjoin ! $ nothing ! $ move ! (2 ∷ 0 ∷ []) $ join ! $ frame ! $ done !) $
-        calls_at ! fm (askt-of 𝓛 at_mem run) known-askt (((κ3, tt), (q3, tt), tt, (r1, ((record { ref_ptr = tx.ref_ptr; ghost_name = tx.ghost_name; now = zs1.1.1.1.1.1.0 }), tt)), (EL.val E.the_type E'.the_laws r1 ∷ [], (slice_val tx.ref_ptr (length tx.now) ∷ [], tt))), tt) (and_then ! (load ! (from ! (stop !)) (look ! 37 refl)) (and_then ! (load ! (from ! (stop !)) (look ! 21 refl)) (no_more !))) (λ w2.
+        use1 𝓛 (raw ((askt_of 𝓛 at_mem run).pre (((κ3, tt), (q3, tt), tt, (r1, ((record { ref_ptr = tx.ref_ptr; ghost_name = tx.ghost_name; now = zs1.1.1.1.1.1.0 }), tt)), (EL.val E.the_type E'.the_laws r1 ∷ [], (slice_val tx.ref_ptr (length tx.now) ∷ [], tt))), tt))) (qed 𝓛 (‵ (flft κ3 q3) ∷ ‵ ((MutSlice (named 0) κ3 u8).own_val (record { ref_ptr = tx.ref_ptr; ghost_name = tx.ghost_name; now = zs1.1.1.1.1.1.0 }) (slice_val tx.ref_ptr (length tx.now) ∷ [])) ∷ []) ∵ says ! (l1-5 ∙ req.0.text-length) $ nothing ! $ move ! (2 ∷ 0 ∷ []) $ fjoin ! $ owned ! E.the_row (Is E.the_row) (EL.makes E.the_type E'.the_plain 𝓛) r1 _ is1 $ fjoin ! $ nothing ! $ move ! (2 ∷ 0 ∷ []) $ join ! $ frame ! $ done !) $
+        calls_at ! fm (askt_of 𝓛 at_mem run) known-askt (((κ3, tt), (q3, tt), tt, (r1, ((record { ref_ptr = tx.ref_ptr; ghost_name = tx.ghost_name; now = zs1.1.1.1.1.1.0 }), tt)), (EL.val E.the_type E'.the_laws r1 ∷ [], (slice_val tx.ref_ptr (length tx.now) ∷ [], tt))), tt) (and_then ! (load ! (from ! (stop !)) (look ! 37 refl)) (and_then ! (load ! (from ! (stop !)) (look ! 21 refl)) (no_more !))) (λ w2.
         use1 𝓛 (later (some (λ (r : Asked). ((‵ (flft κ3 q3) ⊛ ‵ ftrue) ⊛ ‵ ((AS.the_row).own_val r (w2 ∷ []))) ⊛ raw (ensured 𝓛 askt.ended (askt.clauses 𝓛 at_mem run) (κ3, tt) (r1, ((record { ref_ptr = tx.ptr; ghost_name = tx.name; now = zs1.1.1.1.1.1.0 }), tt)) tt r)))) (id⊢ 𝓤 _) $ await ! tt $ pick ! (λ r2.
         split ! $ move ! (1 ∷ []) $ use1 𝓛 (some (λ (zs : (Unit {0} × (List ℕ × Unit {0}))). ‵ (lasts askt.ended (κ3, tt) (r1, ((record { ref_ptr = tx.ptr; ghost_name = tx.name; now = zs1.1.1.1.1.1.0 }), tt)) zs) ⊛ raw (fact 𝓤 (Tells (answer_value r1) r2.written (record { ref_ptr = tx.ptr; ghost_name = tx.name; now = zs1.1.1.1.1.1.0 }).now zs.1.0 × (r2.refused ≡ is_refused (answer_value r1)))))) (id⊢ 𝓤 _) $ pick ! (λ zs2.
         split ! $ move ! (1 ∷ []) $ heard ! (Tells (answer_value r1) r2.written (record { ref_ptr = tx.ptr; ghost_name = tx.name; now = zs1.1.1.1.1.1.0 }).now zs2.1.0 × (r2.refused ≡ is_refused (answer_value r1))) (λ e2.
@@ -177,8 +177,8 @@ module _ {M : Type 1} {𝓤 : Ura M} (𝓛 : Logic 𝓤) (at_mem : Memory → SP
         assigns ! (of_opd ! (load ! (from ! (fld ! refl (stop !))) (look_in ! 36 (sub ! 1 refl (whole !))))) (from ! (stop !)) (init ! 20 refl ((bool_Lawful 𝓛).typed r2.refused _ ((LL.owed AS.the_type AS'.the_laws r2 _ is2).1.0)).0) $
         forks ! (load ! (from ! (stop !)) (look ! 20 refl)) (λ y1.
         -- `alone`
-        use0 𝓛 (raw ((alonet-of 𝓛 at_mem run).pre ((tt, tt, tt, (r2.written, tt), (vint w64 r2.written ∷ [], tt)), tt))) (qed 𝓛 ([]) ∵ nothing ! $ owned ! usize (Is usize) (uint_Makes 𝓛 w64) r2.written _ ((LL.owed AS.the_type AS'.the_laws r2 _ is2).0) $ fjoin ! $ nothing ! $ join ! $ frame ! $ done !) $
-        calls_at ! fm (alonet-of 𝓛 at_mem run) known-alonet ((tt, tt, tt, (r2.written, tt), (vint w64 r2.written ∷ [], tt)), tt) (and_then ! (load ! (from ! (fld ! refl (stop !))) (look_in ! 37 (sub ! 0 refl (whole !)))) (no_more !)) (λ w3.
+        use0 𝓛 (raw ((alonet_of 𝓛 at_mem run).pre ((tt, tt, tt, (r2.written, tt), (vint w64 r2.written ∷ [], tt)), tt))) (qed 𝓛 ([]) ∵ nothing ! $ owned ! usize (Is usize) (uint_Makes 𝓛 w64) r2.written _ ((LL.owed AS.the_type AS'.the_laws r2 _ is2).0) $ fjoin ! $ nothing ! $ join ! $ frame ! $ done !) $
+        calls_at ! fm (alonet_of 𝓛 at_mem run) known-alonet ((tt, tt, tt, (r2.written, tt), (vint w64 r2.written ∷ [], tt)), tt) (and_then ! (load ! (from ! (fld ! refl (stop !))) (look_in ! 37 (sub ! 0 refl (whole !)))) (no_more !)) (λ w3.
         use1 𝓛 (later (some (λ (r : Turn). ((‵ ftrue) ⊛ ‵ ((TU.the_row).own_val r (w3 ∷ []))) ⊛ raw (ensured 𝓛 alonet.ended (alonet.clauses 𝓛 at_mem run) tt (r2.written, tt) tt r)))) (id⊢ 𝓤 _) $ await ! tt $ pick ! (λ r3.
         split ! $ move ! (1 ∷ []) $ use1 𝓛 (some (λ (zs : (Unit {0} × Unit {0})). ‵ (lasts alonet.ended tt (r2.written, tt) zs) ⊛ raw (fact 𝓤 ((r3.written ≡ r2.written) × (r3.closed ≡ 0) × (r3.more ≡ true))))) (id⊢ 𝓤 _) $ pick ! (λ zs3.
         split ! $ move ! (1 ∷ []) $ heard ! ((r3.written ≡ r2.written) × (r3.closed ≡ 0) × (r3.more ≡ true)) (λ e3. fsplit ! $ drop ! $ drop ! $ split ! $ drop ! $
@@ -197,7 +197,7 @@ module _ {M : Type 1} {𝓤 : Ura M} (𝓛 : Logic 𝓤) (at_mem : Memory → SP
         move ! (37 ∷ 38 ∷ []) $ free1 ! $ move ! (35 ∷ 36 ∷ []) $ free1 ! $ move ! (33 ∷ 34 ∷ []) $ free1 ! $ move ! (31 ∷ 32 ∷ []) $ free1 ! $ move ! (29 ∷ 30 ∷ []) $ free1 ! $
         move ! (27 ∷ 28 ∷ []) $ free1 ! $ move ! (25 ∷ 26 ∷ []) $ free1 ! $ move ! (23 ∷ 24 ∷ []) $ free1 ! $ move ! (21 ∷ 22 ∷ []) $ free1 ! $ move ! (19 ∷ 20 ∷ []) $ free1 ! $
         move ! (17 ∷ 18 ∷ []) $ free1 ! $ move ! (15 ∷ 16 ∷ []) $ free1 ! $ move ! (13 ∷ 14 ∷ []) $ free1 ! $ free0 ! $ keep ! (9 ∷ 10 ∷ 8 ∷ 6 ∷ 12 ∷ 4 ∷ 2 ∷ 7 ∷ 0 ∷ []) $
-        by ! (exits r3 zs1.0 zs1.1.1.0 zs2.1.0 cl.now (ask-refused bk.now h n t req.0 e1 e2 cl.now (holds _ y1) e3) l1-2 ((l2-1 ∙ l1-5)) refl is3)))))))) (λ n1.
+        by ! (exits r3 zs1.0 zs1.1.1.0 zs2.1.0 cl.now (ask_refused bk.now h n t req.0 e1 e2 cl.now (holds _ y1) e3) l1-2 ((l2-1 ∙ l1-5)) refl is3)))))))) (λ n1.
         assigns ! (addr ! (from ! (hop ! (look ! 52 refl) (stop !)))) (from ! (stop !)) (init ! 18 refl ((tt, tt))) $
         assigns ! (addr ! (from ! (fld ! refl (hop ! (look_in ! 48 (sub ! 0 refl (whole !))) (stop !))))) (from ! (stop !)) (init ! 16 refl ((tt, tt))) $
         assigns ! (agg ! (and_then ! (load ! (from ! (stop !)) (look ! 16 refl)) (and_then ! (load ! (from ! (fld ! refl (stop !))) (look_in ! 48 (sub ! 1 refl (whole !)))) (no_more !)))) (from ! (stop !)) (init ! 14 refl ((tt, (tt, (record { fits = room_Sc.0 }, tt))))) $
@@ -205,8 +205,8 @@ module _ {M : Type 1} {𝓤 : Ura M} (𝓛 : Logic 𝓤) (at_mem : Memory → SP
         assigns ! (agg ! (and_then ! (load ! (from ! (stop !)) (look ! 12 refl)) (and_then ! (load ! (from ! (fld ! refl (stop !))) (look_in ! 40 (sub ! 1 refl (whole !)))) (no_more !)))) (from ! (stop !)) (init ! 10 refl ((tt, (tt, (record { fits = room-cl.0 }, tt))))) $
         -- `reply_turn`
         move ! (5 ∷ 6 ∷ 3 ∷ 8 ∷ 4 ∷ 7 ∷ 2 ∷ 9 ∷ []) $ group ! 8 $
-        use1 𝓛 (raw ((replyu-of 𝓛 at_mem run).pre (((κ0, (κ1, (κ2, (κ4, tt)))), (q0, (q1, (q2, (q4, tt)))), tt, ((record { ref_ptr = (b, o); ghost_name = γ; now = zs1.0 }), (bk, ((record { ref_ptr = sc.ref_ptr; ghost_name = sc.ghost_name; now = zs1.1.1.0 }), (r2.written, ((record { ref_ptr = cl.ref_ptr; ghost_name = cl.ghost_name; now = cl.now }), tt))))), (vptr b o ∷ [], (slice_val bk.ref_ptr (length bk.now) ∷ [], (slice_val sc.ref_ptr (length sc.now) ∷ [], (vint w64 r2.written ∷ [], (slice_val cl.ref_ptr (length cl.now) ∷ [], tt)))))), tt))) (qed 𝓛 (‵ (flft κ0 q0) ∷ ‵ (flft κ1 q1) ∷ ‵ (flft κ2 q2) ∷ ‵ (flft κ4 q4) ∷ ‵ ((MutRef (named 0) κ0 T.the_row).own_val (record { ref_ptr = (b, o); ghost_name = γ; now = zs1.0 }) (vptr b o ∷ [])) ∷ ‵ ((ShrSlice (named 1) κ1 u8).own_val bk (slice_val bk.ref_ptr (length bk.now) ∷ [])) ∷ ‵ ((MutSlice (named 2) κ2 u8).own_val (record { ref_ptr = sc.ref_ptr; ghost_name = sc.ghost_name; now = zs1.1.1.0 }) (slice_val sc.ref_ptr (length sc.now) ∷ [])) ∷ ‵ ((MutSlice (named 3) κ4 u8).own_val (record { ref_ptr = cl.ref_ptr; ghost_name = cl.ghost_name; now = cl.now }) (slice_val cl.ref_ptr (length cl.now) ∷ [])) ∷ []) ∵ says ! (record { scratch-length = l1-2 ∙ req.0.scratch-length; text-length = req.1 }) $ nothing ! $ move ! (8 ∷ 0 ∷ []) $ fjoin ! $ owned ! usize (Is usize) (uint_Makes 𝓛 w64) r2.written _ ((LL.owed AS.the_type AS'.the_laws r2 _ is2).0) $ fjoin ! $ move ! (7 ∷ 0 ∷ []) $ fjoin ! $ move ! (6 ∷ 0 ∷ []) $ fjoin ! $ move ! (5 ∷ 0 ∷ []) $ fjoin ! $ nothing ! $ move ! (5 ∷ 0 ∷ []) $ join ! $ move ! (4 ∷ 0 ∷ []) $ join ! $ move ! (3 ∷ 0 ∷ []) $ join ! $ move ! (2 ∷ 0 ∷ []) $ join ! $ frame ! $ done !) $
-        calls_at ! fm (replyu-of 𝓛 at_mem run) known-replyu (((κ0, (κ1, (κ2, (κ4, tt)))), (q0, (q1, (q2, (q4, tt)))), tt, ((record { ref_ptr = (b, o); ghost_name = γ; now = zs1.0 }), (bk, ((record { ref_ptr = sc.ref_ptr; ghost_name = sc.ghost_name; now = zs1.1.1.0 }), (r2.written, ((record { ref_ptr = cl.ref_ptr; ghost_name = cl.ghost_name; now = cl.now }), tt))))), (vptr b o ∷ [], (slice_val bk.ref_ptr (length bk.now) ∷ [], (slice_val sc.ref_ptr (length sc.now) ∷ [], (vint w64 r2.written ∷ [], (slice_val cl.ref_ptr (length cl.now) ∷ [], tt)))))), tt) (and_then ! (load ! (from ! (stop !)) (look ! 11 refl)) (and_then ! (load ! (from ! (stop !)) (look ! 43 refl)) (and_then ! (load ! (from ! (stop !)) (look ! 7 refl)) (and_then ! (load ! (from ! (fld ! refl (stop !))) (look_in ! 29 (sub ! 0 refl (whole !)))) (and_then ! (load ! (from ! (stop !)) (look ! 3 refl)) (no_more !)))))) (λ w4.
+        use1 𝓛 (raw ((replyu_of 𝓛 at_mem run).pre (((κ0, (κ1, (κ2, (κ4, tt)))), (q0, (q1, (q2, (q4, tt)))), tt, ((record { ref_ptr = (b, o); ghost_name = γ; now = zs1.0 }), (bk, ((record { ref_ptr = sc.ref_ptr; ghost_name = sc.ghost_name; now = zs1.1.1.0 }), (r2.written, ((record { ref_ptr = cl.ref_ptr; ghost_name = cl.ghost_name; now = cl.now }), tt))))), (vptr b o ∷ [], (slice_val bk.ref_ptr (length bk.now) ∷ [], (slice_val sc.ref_ptr (length sc.now) ∷ [], (vint w64 r2.written ∷ [], (slice_val cl.ref_ptr (length cl.now) ∷ [], tt)))))), tt))) (qed 𝓛 (‵ (flft κ0 q0) ∷ ‵ (flft κ1 q1) ∷ ‵ (flft κ2 q2) ∷ ‵ (flft κ4 q4) ∷ ‵ ((MutRef (named 0) κ0 T.the_row).own_val (record { ref_ptr = (b, o); ghost_name = γ; now = zs1.0 }) (vptr b o ∷ [])) ∷ ‵ ((ShrSlice (named 1) κ1 u8).own_val bk (slice_val bk.ref_ptr (length bk.now) ∷ [])) ∷ ‵ ((MutSlice (named 2) κ2 u8).own_val (record { ref_ptr = sc.ref_ptr; ghost_name = sc.ghost_name; now = zs1.1.1.0 }) (slice_val sc.ref_ptr (length sc.now) ∷ [])) ∷ ‵ ((MutSlice (named 3) κ4 u8).own_val (record { ref_ptr = cl.ref_ptr; ghost_name = cl.ghost_name; now = cl.now }) (slice_val cl.ref_ptr (length cl.now) ∷ [])) ∷ []) ∵ says ! (record { scratch_length = l1-2 ∙ req.0.scratch_length; text-length = req.1 }) $ nothing ! $ move ! (8 ∷ 0 ∷ []) $ fjoin ! $ owned ! usize (Is usize) (uint_Makes 𝓛 w64) r2.written _ ((LL.owed AS.the_type AS'.the_laws r2 _ is2).0) $ fjoin ! $ move ! (7 ∷ 0 ∷ []) $ fjoin ! $ move ! (6 ∷ 0 ∷ []) $ fjoin ! $ move ! (5 ∷ 0 ∷ []) $ fjoin ! $ nothing ! $ move ! (5 ∷ 0 ∷ []) $ join ! $ move ! (4 ∷ 0 ∷ []) $ join ! $ move ! (3 ∷ 0 ∷ []) $ join ! $ move ! (2 ∷ 0 ∷ []) $ join ! $ frame ! $ done !) $
+        calls_at ! fm (replyu_of 𝓛 at_mem run) known-replyu (((κ0, (κ1, (κ2, (κ4, tt)))), (q0, (q1, (q2, (q4, tt)))), tt, ((record { ref_ptr = (b, o); ghost_name = γ; now = zs1.0 }), (bk, ((record { ref_ptr = sc.ref_ptr; ghost_name = sc.ghost_name; now = zs1.1.1.0 }), (r2.written, ((record { ref_ptr = cl.ref_ptr; ghost_name = cl.ghost_name; now = cl.now }), tt))))), (vptr b o ∷ [], (slice_val bk.ref_ptr (length bk.now) ∷ [], (slice_val sc.ref_ptr (length sc.now) ∷ [], (vint w64 r2.written ∷ [], (slice_val cl.ref_ptr (length cl.now) ∷ [], tt)))))), tt) (and_then ! (load ! (from ! (stop !)) (look ! 11 refl)) (and_then ! (load ! (from ! (stop !)) (look ! 43 refl)) (and_then ! (load ! (from ! (stop !)) (look ! 7 refl)) (and_then ! (load ! (from ! (fld ! refl (stop !))) (look_in ! 29 (sub ! 0 refl (whole !)))) (and_then ! (load ! (from ! (stop !)) (look ! 3 refl)) (no_more !)))))) (λ w4.
         use1 𝓛 (later (some (λ (r : Turn). ((‵ (flft κ0 q0) ⊛ ‵ (flft κ1 q1) ⊛ ‵ (flft κ2 q2) ⊛ ‵ (flft κ4 q4) ⊛ ‵ ftrue) ⊛ ‵ ((TU.the_row).own_val r (w4 ∷ []))) ⊛ raw (ensured 𝓛 replyu.ended (replyu.clauses 𝓛 at_mem run) (κ0, (κ1, (κ2, (κ4, tt)))) ((record { ref_ptr = (b, o); ghost_name = γ; now = zs1.0 }), (bk, ((record { ref_ptr = sc.ptr; ghost_name = sc.name; now = zs1.1.1.0 }), (r2.written, ((record { ref_ptr = cl.ref_ptr; ghost_name = cl.ghost_name; now = cl.now }), tt))))) tt r)))) (id⊢ 𝓤 _) $ await ! tt $ pick ! (λ r4.
         split ! $ move ! (1 ∷ []) $ use1 𝓛 (some (λ (zs : (Session × (Unit {0} × (List ℕ × (Unit {0} × (List ℕ × Unit {0})))))). ‵ (lasts replyu.ended (κ0, (κ1, (κ2, (κ4, tt)))) ((record { ref_ptr = (b, o); ghost_name = γ; now = zs1.0 }), (bk, ((record { ref_ptr = sc.ptr; ghost_name = sc.name; now = zs1.1.1.0 }), (r2.written, ((record { ref_ptr = cl.ref_ptr; ghost_name = cl.ghost_name; now = cl.now }), tt))))) zs) ⊛ raw (fact 𝓤 (Closes bk.now (record { ref_ptr = (b, o); ghost_name = γ; now = zs1.0 }).now r2.written r4 zs.0 zs.1.1.1.1.0)))) (id⊢ 𝓤 _) $ pick ! (λ zs4.
         split ! $ move ! (1 ∷ []) $ heard ! (Closes bk.now (record { ref_ptr = (b, o); ghost_name = γ; now = zs1.0 }).now r2.written r4 zs4.0 zs4.1.1.1.1.0) (λ e4. fsplit ! $
@@ -223,23 +223,23 @@ module _ {M : Type 1} {𝓤 : Ura M} (𝓛 : Logic 𝓤) (at_mem : Memory → SP
         move ! (33 ∷ 34 ∷ []) $ free1 ! $ move ! (31 ∷ 32 ∷ []) $ free1 ! $ move ! (29 ∷ 30 ∷ []) $ free1 ! $ move ! (27 ∷ 28 ∷ []) $ free1 ! $ move ! (25 ∷ 26 ∷ []) $ free1 ! $
         move ! (23 ∷ 24 ∷ []) $ free1 ! $ move ! (21 ∷ 22 ∷ []) $ free1 ! $ move ! (19 ∷ 20 ∷ []) $ free1 ! $ move ! (17 ∷ 18 ∷ []) $ free1 ! $ move ! (15 ∷ 16 ∷ []) $ free1 ! $
         move ! (13 ∷ 14 ∷ []) $ free1 ! $ move ! (11 ∷ 12 ∷ []) $ free1 ! $ move ! (9 ∷ 10 ∷ []) $ free1 ! $ free0 ! $ keep ! (3 ∷ 2 ∷ 1 ∷ 7 ∷ 0 ∷ 6 ∷ 5 ∷ 8 ∷ 4 ∷ []) $
-        by ! (exits r4 zs4.0 zs4.1.1.0 zs2.1.0 zs4.1.1.1.1.0 (ask-replied bk.now h n t req.0 e1 e2 (fails _ n1) e4) ((l4-2 ∙ l1-2)) ((l2-1 ∙ l1-5)) l4-4 is4))))))))))))))))))))))))))))))))))))))))))))))))))))))
+        by ! (exits r4 zs4.0 zs4.1.1.0 zs2.1.0 zs4.1.1.1.1.0 (ask_replied bk.now h n t req.0 e1 e2 (fails _ n1) e4) ((l4-2 ∙ l1-2)) ((l2-1 ∙ l1-5)) l4-4 is4))))))))))))))))))))))))))))))))))))))))))))))))))))))
 
 module _ {M : Type 1} {𝓤 : Ura M} (𝓛 : Logic 𝓤) (at_mem : Memory → SProp 𝓤) (run : Routine → Fun 𝓤) where
   open 𝓛 use {H}
 
-  walks : (C : Calls 𝓤 H) (Λ : Loops 𝓤 H) → FmC 𝓤 H 𝓛.laws C → Triple 𝓤 (C #lent-sessions·ask-mut) (am-of 𝓛 at_mem run) → Triple 𝓤 (C #script-text·answers·ask-told) (askt-of 𝓛 at_mem run) → Triple 𝓤 (C #script-text·answers·alone) (alonet-of 𝓛 at_mem run) → Triple 𝓤 (C #script-text·turns·reply-turn) (replyu-of 𝓛 at_mem run) → Walks 𝓛 self.ended stayed (WpFn 𝓤 H C Λ code.function) (self.clauses 𝓛 at_mem run)
+  walks : (C : Calls 𝓤 H) (Λ : Loops 𝓤 H) → FmC 𝓤 H 𝓛.laws C → Triple 𝓤 (C #lent-sessions·ask-mut) (am_of 𝓛 at_mem run) → Triple 𝓤 (C #script-text·answers·ask-told) (askt_of 𝓛 at_mem run) → Triple 𝓤 (C #script-text·answers·alone) (alonet_of 𝓛 at_mem run) → Triple 𝓤 (C #script-text·turns·reply-turn) (replyu_of 𝓛 at_mem run) → Walks 𝓛 self.ended stayed (WpFn 𝓤 H C Λ code.function) (self.clauses 𝓛 at_mem run)
   walks C Λ fm known-am known-askt known-alonet known-replyu = walked 𝓛 self.ended stayed (self.clauses 𝓛 at_mem run) (WpFn 𝓤 H C Λ code.function) (λ κs. (mut_vals, (shr_slice_vals, (mut_slice_vals, (uint_vals w32, (uint_vals w32, (mut_slice_vals, (mut_slice_vals, tt)))))))) (λ κs. (mut_Tells (named 0) κs.0 T.the_row, (shr_slice_Tells (named 1) κs.1.0 u8, (mut_slice_Tells (named 2) κs.1.1.0 u8, (uint_Tells w32, (uint_Tells w32, (mut_slice_Tells (named 3) κs.1.1.1.0 u8, (mut_slice_Tells (named 4) κs.1.1.1.1.0 u8, tt))))))))
       (λ κs qs bounds a g are. needs 𝓤 (Desk a.1.1.0.now a.1.1.1.1.1.0.now × (length a.1.1.1.1.1.1.0.now ≡ text_size)) _ (λ req. walk 𝓛 at_mem run κs.0 κs.1.0 κs.1.1.0 κs.1.1.1.0 κs.1.1.1.1.0 qs.0 qs.1.0 qs.1.1.0 qs.1.1.1.0 qs.1.1.1.1.0 a.0.ref_ptr.0 a.0.ref_ptr.1 a.0.ghost_name a.0.now a.1.0 a.1.1.0 a.1.1.1.0 a.1.1.1.1.0 a.1.1.1.1.1.0 a.1.1.1.1.1.1.0 C Λ fm known-am known-askt known-alonet known-replyu are.1.0 are.1.1.0.0.1 are.1.1.1.0.1 are.1.1.1.1.0.1 are.1.1.1.1.1.0.0.1 are.1.1.1.1.1.1.0.0.1 req))
 
-meets : {M : Type 1} {𝓤 : Ura M} (𝓛 : Logic 𝓤) → (at_mem : Memory → SProp 𝓤) (run : Routine → Fun 𝓤) (𝓣 : Tables 𝓤 𝓛.H) → Triple 𝓤 (𝓣.C #lent-sessions·ask-mut) (am-of 𝓛 at_mem run) → Triple 𝓤 (𝓣.C #script-text·answers·ask-told) (askt-of 𝓛 at_mem run) → Triple 𝓤 (𝓣.C #script-text·answers·alone) (alonet-of 𝓛 at_mem run) → Triple 𝓤 (𝓣.C #script-text·turns·reply-turn) (replyu-of 𝓛 at_mem run) → Meets 𝓛 self.signature (WpFn 𝓤 𝓛.H 𝓣.C 𝓣.Λ code.function) (self.spec 𝓛 at_mem run)
+meets : {M : Type 1} {𝓤 : Ura M} (𝓛 : Logic 𝓤) → (at_mem : Memory → SProp 𝓤) (run : Routine → Fun 𝓤) (𝓣 : Tables 𝓤 𝓛.H) → Triple 𝓤 (𝓣.C #lent-sessions·ask-mut) (am_of 𝓛 at_mem run) → Triple 𝓤 (𝓣.C #script-text·answers·ask-told) (askt_of 𝓛 at_mem run) → Triple 𝓤 (𝓣.C #script-text·answers·alone) (alonet_of 𝓛 at_mem run) → Triple 𝓤 (𝓣.C #script-text·turns·reply-turn) (replyu_of 𝓛 at_mem run) → Meets 𝓛 self.signature (WpFn 𝓤 𝓛.H 𝓣.C 𝓣.Λ code.function) (self.spec 𝓛 at_mem run)
 meets {𝓤 = 𝓤} 𝓛 at_mem run 𝓣 known-am known-askt known-alonet known-replyu =
     walk_Meets 𝓛 self.ended stayed (Goes-gave_ref 𝓛 5 0 tt (plain (λ _. T.the_row)), (Goes-dropped 𝓛 5 (shr_slice_of (1 ∷ []) tt (plain (λ _. u8))) yes (λ κs x f. refl), (Goes-gave_slice 𝓛 5 2 tt (plain (λ _. u8)), (Goes-dropped 𝓛 5 (plain (λ _. u32)) yes (λ κs x f. refl), (Goes-dropped 𝓛 5 (plain (λ _. u32)) yes (λ κs x f. refl), (Goes-gave_slice 𝓛 5 3 tt (plain (λ _. u8)), (Goes-gave_slice 𝓛 5 4 tt (plain (λ _. u8)), tt))))))) (self.clauses 𝓛 at_mem run) (WpFn 𝓤 𝓛.H 𝓣.C 𝓣.Λ code.function) (WpFn-mono 𝓤 𝓛.H 𝓛.laws 𝓣 code.function) (walks 𝓛 at_mem run 𝓣.C 𝓣.Λ (fm_of 𝓤 𝓛.H 𝓛.laws 𝓣) known-am known-askt known-alonet known-replyu)
 
-pub ask-turn-spec : {M : Type 1} → stated.statement M
+pub ask_turn_spec : {M : Type 1} → stated.statement M
 unfolding code.routine tables_of
-ask-turn-spec 𝓤 𝓛 𝓜 𝓡 =
+ask_turn_spec 𝓤 𝓛 𝓜 𝓡 =
     entered 𝓤 𝓛.H (triple_of 𝓛 self.signature (self.spec 𝓛 𝓜.mem 𝓡.run))
     (tables 𝓤 𝓛.H 𝓜 𝓡 code.env).C (tables 𝓤 𝓛.H 𝓜 𝓡 code.env).Λ #me code.function (code.unfolded 𝓤 𝓛.H 𝓜 𝓡)
     (meets 𝓛 𝓜.mem 𝓡.run (tables_of 𝓤 𝓛.H 𝓜 (tables 𝓤 𝓛.H 𝓜 𝓡 code.env))
-    (cited 𝓤 𝓛.H (am-of 𝓛 𝓜.mem 𝓡.run) 𝓜 𝓡 code.env #lent-sessions·ask-mut am-def.routine code.calls-lent-sessions::ask-mut (am-thm.met 𝓤 𝓛 𝓜 𝓡)) (cited 𝓤 𝓛.H (askt-of 𝓛 𝓜.mem 𝓡.run) 𝓜 𝓡 code.env #script-text·answers·ask-told askt-def.routine code.calls-script-text::answers::ask-told (askt-thm.met 𝓤 𝓛 𝓜 𝓡)) (cited 𝓤 𝓛.H (alonet-of 𝓛 𝓜.mem 𝓡.run) 𝓜 𝓡 code.env #script-text·answers·alone alonet-def.routine code.calls-script-text::answers::alone (alonet-thm.met 𝓤 𝓛 𝓜 𝓡)) (cited 𝓤 𝓛.H (replyu-of 𝓛 𝓜.mem 𝓡.run) 𝓜 𝓡 code.env #script-text·turns·reply-turn replyu-def.routine code.calls-script-text::turns::reply-turn (replyu-thm.met 𝓤 𝓛 𝓜 𝓡)))
+    (cited 𝓤 𝓛.H (am_of 𝓛 𝓜.mem 𝓡.run) 𝓜 𝓡 code.env #lent-sessions·ask-mut am-def.routine code.calls-lent-sessions::ask-mut (am-thm.met 𝓤 𝓛 𝓜 𝓡)) (cited 𝓤 𝓛.H (askt_of 𝓛 𝓜.mem 𝓡.run) 𝓜 𝓡 code.env #script-text·answers·ask-told askt-def.routine code.calls-script-text::answers::ask-told (askt-thm.met 𝓤 𝓛 𝓜 𝓡)) (cited 𝓤 𝓛.H (alonet_of 𝓛 𝓜.mem 𝓡.run) 𝓜 𝓡 code.env #script-text·answers·alone alonet-def.routine code.calls-script-text::answers::alone (alonet-thm.met 𝓤 𝓛 𝓜 𝓡)) (cited 𝓤 𝓛.H (replyu_of 𝓛 𝓜.mem 𝓡.run) 𝓜 𝓡 code.env #script-text·turns·reply-turn replyu-def.routine code.calls-script-text::turns::reply-turn (replyu-thm.met 𝓤 𝓛 𝓜 𝓡)))

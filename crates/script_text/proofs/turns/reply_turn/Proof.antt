@@ -61,7 +61,7 @@ use Rattle.solvers.specs.Left.{answer_value, called}
 use Rattle.solvers.specs.Returned.{lent, Returned}
 use Rattle.script_text.specs.Turned.{Desk, Tells, Closes}
 use Rattle.script_text.proofs.Again as again
-use Rattle.script_text.proofs.Turning.{reply-closes}
+use Rattle.script_text.proofs.Turning.{reply_closes}
 use Rattle.lent_sessions.specs.contracts.reply_mut as rm
 use Rattle.lent_sessions.proofs.reply_mut.Symbol as rm-def
 use Rattle.lent_sessions.proofs.reply_mut.Symbol.{name as #lent-sessions·reply-mut}
@@ -78,11 +78,11 @@ use Rattle.script_text.proofs.turns.reply_turn.Code as code
 abbrev stayed : Stays (self.ended).signature.params (self.ended).kept
 stayed = (gave_ref (0 ∷ []) tt (plain (λ _. T.the_row)), (stay_dropped (shr_slice_of (1 ∷ []) tt (plain (λ _. u8))) yes, (gave_slice (2 ∷ []) tt (plain (λ _. u8)), (stay_dropped (plain (λ _. usize)) yes, (gave_slice (3 ∷ []) tt (plain (λ _. u8)), tt)))))
 
-abbrev rm-of : {M : Type 1} {𝓤 : Ura M} (𝓛 : Logic 𝓤) (mem : Memory → SProp 𝓤) (run : Routine → Fun 𝓤) → Contract 𝓤
-rm-of 𝓛 mem run = triple_of 𝓛 rm.signature (rm.spec 𝓛 mem run)
+abbrev rm_of : {M : Type 1} {𝓤 : Ura M} (𝓛 : Logic 𝓤) (mem : Memory → SProp 𝓤) (run : Routine → Fun 𝓤) → Contract 𝓤
+rm_of 𝓛 mem run = triple_of 𝓛 rm.signature (rm.spec 𝓛 mem run)
 
-abbrev replyt-of : {M : Type 1} {𝓤 : Ura M} (𝓛 : Logic 𝓤) (mem : Memory → SProp 𝓤) (run : Routine → Fun 𝓤) → Contract 𝓤
-replyt-of 𝓛 mem run = triple_of 𝓛 replyt.signature (replyt.spec 𝓛 mem run)
+abbrev replyt_of : {M : Type 1} {𝓤 : Ura M} (𝓛 : Logic 𝓤) (mem : Memory → SProp 𝓤) (run : Routine → Fun 𝓤) → Contract 𝓤
+replyt_of 𝓛 mem run = triple_of 𝓛 replyt.signature (replyt.spec 𝓛 mem run)
 
 abbrev sv : Session → Val
 sv = LL.val T.the_type T'.the_laws
@@ -103,10 +103,10 @@ module _ {M : Type 1} {𝓤 : Ura M} (𝓛 : Logic 𝓤) (at_mem : Memory → SP
   Post = (walk_of 𝓛 self.ended stayed (self.clauses 𝓛 at_mem run)).post (((κ0, (κ1, (κ2, (κ3, tt)))), (q0, (q1, (q2, (q3, tt)))), tt, a, vals), tt)
 
   exits : (r : Turn) (s' : Session) (sc' : List ℕ) (cl' : List ℕ) → Closes bk.now h k r s' cl' → length sc' ≡ length sc.now → length cl' ≡ length cl.now → Is TU.the_row r (LL.val TU.the_type TU'.the_laws r ∷ []) → ent 𝓤 (⋆ 𝓛 (‵ (flft κ0 q0) ∷ ‵ (flft κ1 q1) ∷ ‵ (flft κ2 q2) ∷ ‵ (flft κ3 q3) ∷ ‵ (fres γ ((T.the_row).coded.code s')) ∷ ‵ (finally u8 sc.ghost_name sc') ∷ ‵ (finally u8 cl.ghost_name cl') ∷ [])) (Post (LL.val TU.the_type TU'.the_laws r))
-  exits r s' sc' cl' e l-sc l-cl is =
-      qed 𝓛 (‵ (flft κ0 q0) ∷ ‵ (flft κ1 q1) ∷ ‵ (flft κ2 q2) ∷ ‵ (flft κ3 q3) ∷ ‵ (fres γ ((T.the_row).coded.code s')) ∷ ‵ (finally u8 sc.name sc') ∷ ‵ (finally u8 cl.name cl') ∷ []) ∵ suffices ! _ (ends_at 𝓛 self.ended stayed (self.clauses 𝓛 at_mem run) (((κ0, (κ1, (κ2, (κ3, tt)))), (q0, (q1, (q2, (q3, tt)))), tt, a, vals), tt) (LL.val TU.the_type TU'.the_laws r) r (s', (tt, (sc', (tt, (cl', tt))))) (tt, (tt, (l-sc, (tt, (l-cl, tt)))))) $ says ! e $ nothing ! $ move ! (4 ∷ 0 ∷ []) $ join ! $ move ! (3 ∷ 0 ∷ []) $ join ! $ move ! (2 ∷ 0 ∷ []) $ join ! $ move ! (1 ∷ 0 ∷ []) $ join ! $ frame ! $ nothing ! $ move ! (3 ∷ 0 ∷ []) $ fjoin ! $ nothing ! $ fjoin ! $ move ! (2 ∷ 0 ∷ []) $ fjoin ! $ nothing ! $ fjoin ! $ move ! (1 ∷ 0 ∷ []) $ fjoin ! $ owned ! TU.the_row (Is TU.the_row) (LL.makes TU.the_type TU'.the_plain 𝓛) r _ is $ move ! (1 ∷ 0 ∷ []) $ done !
+  exits r s' sc' cl' e l_sc l_cl is =
+      qed 𝓛 (‵ (flft κ0 q0) ∷ ‵ (flft κ1 q1) ∷ ‵ (flft κ2 q2) ∷ ‵ (flft κ3 q3) ∷ ‵ (fres γ ((T.the_row).coded.code s')) ∷ ‵ (finally u8 sc.name sc') ∷ ‵ (finally u8 cl.name cl') ∷ []) ∵ suffices ! _ (ends_at 𝓛 self.ended stayed (self.clauses 𝓛 at_mem run) (((κ0, (κ1, (κ2, (κ3, tt)))), (q0, (q1, (q2, (q3, tt)))), tt, a, vals), tt) (LL.val TU.the_type TU'.the_laws r) r (s', (tt, (sc', (tt, (cl', tt))))) (tt, (tt, (l_sc, (tt, (l_cl, tt)))))) $ says ! e $ nothing ! $ move ! (4 ∷ 0 ∷ []) $ join ! $ move ! (3 ∷ 0 ∷ []) $ join ! $ move ! (2 ∷ 0 ∷ []) $ join ! $ move ! (1 ∷ 0 ∷ []) $ join ! $ frame ! $ nothing ! $ move ! (3 ∷ 0 ∷ []) $ fjoin ! $ nothing ! $ fjoin ! $ move ! (2 ∷ 0 ∷ []) $ fjoin ! $ nothing ! $ fjoin ! $ move ! (1 ∷ 0 ∷ []) $ fjoin ! $ owned ! TU.the_row (Is TU.the_row) (LL.makes TU.the_type TU'.the_plain 𝓛) r _ is $ move ! (1 ∷ 0 ∷ []) $ done !
 
-  module _ (C : Calls 𝓤 H) (Λ : Loops 𝓤 H) (fm : FmC 𝓤 H 𝓛.laws C) (known-rm : Triple 𝓤 (C #lent-sessions·reply-mut) (rm-of 𝓛 at_mem run)) (known-replyt : Triple 𝓤 (C #script-text·answers·reply-told) (replyt-of 𝓛 at_mem run)) where
+  module _ (C : Calls 𝓤 H) (Λ : Loops 𝓤 H) (fm : FmC 𝓤 H 𝓛.laws C) (known-rm : Triple 𝓤 (C #lent-sessions·reply-mut) (rm_of 𝓛 at_mem run)) (known-replyt : Triple 𝓤 (C #script-text·answers·reply-told) (replyt_of 𝓛 at_mem run)) where
     walk : Is (ShrSlice (named 1) κ1 u8) bk (slice_val bk.ref_ptr (length bk.now) ∷ []) → Room u8 (length sc.now) → k < 2 ^ 64 → Room u8 (length cl.now) → Desk sc.now cl.now → ent 𝓤 (on_entry 𝓛 self.signature (κ0, (κ1, (κ2, (κ3, tt)))) (q0, (q1, (q2, (q3, tt)))) a vals) (WpFn 𝓤 H C Λ code.function (vptr b o ∷ slice_val bk.ref_ptr (length bk.now) ∷ slice_val sc.ref_ptr (length sc.now) ∷ vint w64 k ∷ slice_val cl.ref_ptr (length cl.now) ∷ []) Post)
     walk is-bk room_Sc fits-k room-cl req =
         qed 𝓛 ((‵ (flft κ0 q0) ⊛ ‵ (flft κ1 q1) ⊛ ‵ (flft κ2 q2) ⊛ ‵ (flft κ3 q3) ⊛ ‵ ftrue) ∷ ‵ (owns (MutRef (named 0) κ0 T.the_row ∷ ShrSlice (named 1) κ1 u8 ∷ MutSlice (named 2) κ2 u8 ∷ usize ∷ MutSlice (named 3) κ3 u8 ∷ []) a vals) ∷ []) ∵ enter ! C Λ code.function (vptr b o ∷ slice_val bk.ref_ptr (length bk.now) ∷ slice_val sc.ref_ptr (length sc.now) ∷ vint w64 k ∷ slice_val cl.ref_ptr (length cl.now) ∷ []) _ $
@@ -138,8 +138,8 @@ module _ {M : Type 1} {𝓤 : Ura M} (𝓛 : Logic 𝓤) (at_mem : Memory → SP
         lft_new ! tt (λ ν1-7.
         nothing ! $ use1 𝓛 (later (some (λ (δ : GName). ‵ ((MutSlice (named 5) (ν1-7 ∷ []) u8).own_val (record { ref_ptr = (l7, 0); ghost_name = δ; now = [] }) (slice_val (l7, 0) 0 ∷ [])) ⊛ ‵ (flent (ν1-7 ∷ []) (Held u8 0 l7 0 δ))))) (lends_slice 𝓛 u8 (named 5) (ν1-7 ∷ []) [] l7 0 (lit< tt, lit< tt)) $ await ! tt $ pick ! (λ δ1-7. split ! $
         move ! (11 ∷ 10 ∷ 9 ∷ 8 ∷ 5 ∷ 2 ∷ 14 ∷ 13 ∷ 12 ∷ 6 ∷ 3 ∷ 0 ∷ []) $ group ! 12 $
-        use1 𝓛 (raw ((rm-of 𝓛 at_mem run).pre (((κ0, (κ1, (κ2, ((ν1-6 ∷ []), ((ν1-cl ∷ []), ((ν1-7 ∷ []), tt)))))), (q0, (q1, (q2, (full_share, (full_share, (full_share, tt)))))), tt, ((record { ref_ptr = (b, o); ghost_name = γ; now = h }), (bk, ((record { ref_ptr = sc.ref_ptr; ghost_name = sc.ghost_name; now = sc.now }), (true, ((record { ref_ptr = (l6, 0); ghost_name = δ1-6; now = 117 ∷ 110 ∷ 115 ∷ 97 ∷ 116 ∷ [] }), ((record { ref_ptr = cl.ref_ptr; ghost_name = δ1-cl; now = cl.now }), ((record { ref_ptr = (l7, 0); ghost_name = δ1-7; now = [] }), tt))))))), (vptr b o ∷ [], (slice_val bk.ref_ptr (length bk.now) ∷ [], (slice_val sc.ref_ptr (length sc.now) ∷ [], (vbool true ∷ [], (slice_val (l6, 0) 5 ∷ [], (slice_val cl.ref_ptr (length cl.now) ∷ [], (slice_val (l7, 0) 0 ∷ [], tt)))))))), tt))) (qed 𝓛 (‵ (flft κ0 q0) ∷ ‵ (flft κ1 q1) ∷ ‵ (flft κ2 q2) ∷ ‵ (flft ((ν1-6 ∷ [])) full_share) ∷ ‵ (flft ((ν1-cl ∷ [])) full_share) ∷ ‵ (flft ((ν1-7 ∷ [])) full_share) ∷ ‵ ((MutRef (named 0) κ0 T.the_row).own_val (record { ref_ptr = (b, o); ghost_name = γ; now = h }) (vptr b o ∷ [])) ∷ ‵ ((ShrSlice (named 1) κ1 u8).own_val bk (slice_val bk.ref_ptr (length bk.now) ∷ [])) ∷ ‵ ((MutSlice (named 2) κ2 u8).own_val (record { ref_ptr = sc.ref_ptr; ghost_name = sc.ghost_name; now = sc.now }) (slice_val sc.ref_ptr (length sc.now) ∷ [])) ∷ ‵ ((ShrSlice (named 3) (ν1-6 ∷ []) u8).own_val (record { ref_ptr = (l6, 0); ghost_name = δ1-6; now = 117 ∷ 110 ∷ 115 ∷ 97 ∷ 116 ∷ [] }) (slice_val (l6, 0) 5 ∷ [])) ∷ ‵ ((MutSlice (named 4) (ν1-cl ∷ []) u8).own_val (record { ref_ptr = cl.ref_ptr; ghost_name = δ1-cl; now = cl.now }) (slice_val cl.ref_ptr (length cl.now) ∷ [])) ∷ ‵ ((MutSlice (named 5) (ν1-7 ∷ []) u8).own_val (record { ref_ptr = (l7, 0); ghost_name = δ1-7; now = [] }) (slice_val (l7, 0) 0 ∷ [])) ∷ []) ∵ nothing ! $ move ! (12 ∷ 0 ∷ []) $ fjoin ! $ move ! (11 ∷ 0 ∷ []) $ fjoin ! $ move ! (10 ∷ 0 ∷ []) $ fjoin ! $ owned ! bool (Is bool) (bool_Makes 𝓛) true _ refl $ fjoin ! $ move ! (9 ∷ 0 ∷ []) $ fjoin ! $ move ! (8 ∷ 0 ∷ []) $ fjoin ! $ move ! (7 ∷ 0 ∷ []) $ fjoin ! $ nothing ! $ move ! (7 ∷ 0 ∷ []) $ join ! $ move ! (6 ∷ 0 ∷ []) $ join ! $ move ! (5 ∷ 0 ∷ []) $ join ! $ move ! (4 ∷ 0 ∷ []) $ join ! $ move ! (3 ∷ 0 ∷ []) $ join ! $ move ! (2 ∷ 0 ∷ []) $ join ! $ join ! $ frame ! $ done !) $
-        calls_at ! fm (rm-of 𝓛 at_mem run) known-rm (((κ0, (κ1, (κ2, ((ν1-6 ∷ []), ((ν1-cl ∷ []), ((ν1-7 ∷ []), tt)))))), (q0, (q1, (q2, (full_share, (full_share, (full_share, tt)))))), tt, ((record { ref_ptr = (b, o); ghost_name = γ; now = h }), (bk, ((record { ref_ptr = sc.ref_ptr; ghost_name = sc.ghost_name; now = sc.now }), (true, ((record { ref_ptr = (l6, 0); ghost_name = δ1-6; now = 117 ∷ 110 ∷ 115 ∷ 97 ∷ 116 ∷ [] }), ((record { ref_ptr = cl.ref_ptr; ghost_name = δ1-cl; now = cl.now }), ((record { ref_ptr = (l7, 0); ghost_name = δ1-7; now = [] }), tt))))))), (vptr b o ∷ [], (slice_val bk.ref_ptr (length bk.now) ∷ [], (slice_val sc.ref_ptr (length sc.now) ∷ [], (vbool true ∷ [], (slice_val (l6, 0) 5 ∷ [], (slice_val cl.ref_ptr (length cl.now) ∷ [], (slice_val (l7, 0) 0 ∷ [], tt)))))))), tt) (and_then ! (load ! (from ! (stop !)) (look ! 24 refl)) (and_then ! (load ! (from ! (stop !)) (look ! 39 refl)) (and_then ! (load ! (from ! (stop !)) (look ! 20 refl)) (and_then ! (true_lit !) (and_then ! (load ! (from ! (stop !)) (look ! 16 refl)) (and_then ! (load ! (from ! (stop !)) (look ! 12 refl)) (and_then ! (load ! (from ! (stop !)) (look ! 8 refl)) (no_more !)))))))) (λ w1.
+        use1 𝓛 (raw ((rm_of 𝓛 at_mem run).pre (((κ0, (κ1, (κ2, ((ν1-6 ∷ []), ((ν1-cl ∷ []), ((ν1-7 ∷ []), tt)))))), (q0, (q1, (q2, (full_share, (full_share, (full_share, tt)))))), tt, ((record { ref_ptr = (b, o); ghost_name = γ; now = h }), (bk, ((record { ref_ptr = sc.ref_ptr; ghost_name = sc.ghost_name; now = sc.now }), (true, ((record { ref_ptr = (l6, 0); ghost_name = δ1-6; now = 117 ∷ 110 ∷ 115 ∷ 97 ∷ 116 ∷ [] }), ((record { ref_ptr = cl.ref_ptr; ghost_name = δ1-cl; now = cl.now }), ((record { ref_ptr = (l7, 0); ghost_name = δ1-7; now = [] }), tt))))))), (vptr b o ∷ [], (slice_val bk.ref_ptr (length bk.now) ∷ [], (slice_val sc.ref_ptr (length sc.now) ∷ [], (vbool true ∷ [], (slice_val (l6, 0) 5 ∷ [], (slice_val cl.ref_ptr (length cl.now) ∷ [], (slice_val (l7, 0) 0 ∷ [], tt)))))))), tt))) (qed 𝓛 (‵ (flft κ0 q0) ∷ ‵ (flft κ1 q1) ∷ ‵ (flft κ2 q2) ∷ ‵ (flft ((ν1-6 ∷ [])) full_share) ∷ ‵ (flft ((ν1-cl ∷ [])) full_share) ∷ ‵ (flft ((ν1-7 ∷ [])) full_share) ∷ ‵ ((MutRef (named 0) κ0 T.the_row).own_val (record { ref_ptr = (b, o); ghost_name = γ; now = h }) (vptr b o ∷ [])) ∷ ‵ ((ShrSlice (named 1) κ1 u8).own_val bk (slice_val bk.ref_ptr (length bk.now) ∷ [])) ∷ ‵ ((MutSlice (named 2) κ2 u8).own_val (record { ref_ptr = sc.ref_ptr; ghost_name = sc.ghost_name; now = sc.now }) (slice_val sc.ref_ptr (length sc.now) ∷ [])) ∷ ‵ ((ShrSlice (named 3) (ν1-6 ∷ []) u8).own_val (record { ref_ptr = (l6, 0); ghost_name = δ1-6; now = 117 ∷ 110 ∷ 115 ∷ 97 ∷ 116 ∷ [] }) (slice_val (l6, 0) 5 ∷ [])) ∷ ‵ ((MutSlice (named 4) (ν1-cl ∷ []) u8).own_val (record { ref_ptr = cl.ref_ptr; ghost_name = δ1-cl; now = cl.now }) (slice_val cl.ref_ptr (length cl.now) ∷ [])) ∷ ‵ ((MutSlice (named 5) (ν1-7 ∷ []) u8).own_val (record { ref_ptr = (l7, 0); ghost_name = δ1-7; now = [] }) (slice_val (l7, 0) 0 ∷ [])) ∷ []) ∵ nothing ! $ move ! (12 ∷ 0 ∷ []) $ fjoin ! $ move ! (11 ∷ 0 ∷ []) $ fjoin ! $ move ! (10 ∷ 0 ∷ []) $ fjoin ! $ owned ! bool (Is bool) (bool_Makes 𝓛) true _ refl $ fjoin ! $ move ! (9 ∷ 0 ∷ []) $ fjoin ! $ move ! (8 ∷ 0 ∷ []) $ fjoin ! $ move ! (7 ∷ 0 ∷ []) $ fjoin ! $ nothing ! $ move ! (7 ∷ 0 ∷ []) $ join ! $ move ! (6 ∷ 0 ∷ []) $ join ! $ move ! (5 ∷ 0 ∷ []) $ join ! $ move ! (4 ∷ 0 ∷ []) $ join ! $ move ! (3 ∷ 0 ∷ []) $ join ! $ move ! (2 ∷ 0 ∷ []) $ join ! $ join ! $ frame ! $ done !) $
+        calls_at ! fm (rm_of 𝓛 at_mem run) known-rm (((κ0, (κ1, (κ2, ((ν1-6 ∷ []), ((ν1-cl ∷ []), ((ν1-7 ∷ []), tt)))))), (q0, (q1, (q2, (full_share, (full_share, (full_share, tt)))))), tt, ((record { ref_ptr = (b, o); ghost_name = γ; now = h }), (bk, ((record { ref_ptr = sc.ref_ptr; ghost_name = sc.ghost_name; now = sc.now }), (true, ((record { ref_ptr = (l6, 0); ghost_name = δ1-6; now = 117 ∷ 110 ∷ 115 ∷ 97 ∷ 116 ∷ [] }), ((record { ref_ptr = cl.ref_ptr; ghost_name = δ1-cl; now = cl.now }), ((record { ref_ptr = (l7, 0); ghost_name = δ1-7; now = [] }), tt))))))), (vptr b o ∷ [], (slice_val bk.ref_ptr (length bk.now) ∷ [], (slice_val sc.ref_ptr (length sc.now) ∷ [], (vbool true ∷ [], (slice_val (l6, 0) 5 ∷ [], (slice_val cl.ref_ptr (length cl.now) ∷ [], (slice_val (l7, 0) 0 ∷ [], tt)))))))), tt) (and_then ! (load ! (from ! (stop !)) (look ! 24 refl)) (and_then ! (load ! (from ! (stop !)) (look ! 39 refl)) (and_then ! (load ! (from ! (stop !)) (look ! 20 refl)) (and_then ! (true_lit !) (and_then ! (load ! (from ! (stop !)) (look ! 16 refl)) (and_then ! (load ! (from ! (stop !)) (look ! 12 refl)) (and_then ! (load ! (from ! (stop !)) (look ! 8 refl)) (no_more !)))))))) (λ w1.
         use1 𝓛 (later (some (λ (r : Answer). ((‵ (flft κ0 q0) ⊛ ‵ (flft κ1 q1) ⊛ ‵ (flft κ2 q2) ⊛ ‵ (flft ((ν1-6 ∷ [])) full_share) ⊛ ‵ (flft ((ν1-cl ∷ [])) full_share) ⊛ ‵ (flft ((ν1-7 ∷ [])) full_share) ⊛ ‵ ftrue) ⊛ ‵ ((E.the_row).own_val r (w1 ∷ []))) ⊛ raw (ensured 𝓛 rm.ended (rm.clauses 𝓛 at_mem run) (κ0, (κ1, (κ2, ((ν1-6 ∷ []), ((ν1-cl ∷ []), ((ν1-7 ∷ []), tt)))))) ((record { ref_ptr = (b, o); ghost_name = γ; now = h }), (bk, ((record { ref_ptr = sc.ref_ptr; ghost_name = sc.ghost_name; now = sc.now }), (true, ((record { ref_ptr = (l6, 0); ghost_name = δ1-6; now = 117 ∷ 110 ∷ 115 ∷ 97 ∷ 116 ∷ [] }), ((record { ref_ptr = cl.ref_ptr; ghost_name = δ1-cl; now = cl.now }), ((record { ref_ptr = (l7, 0); ghost_name = δ1-7; now = [] }), tt))))))) tt r)))) (id⊢ 𝓤 _) $ await ! tt $ pick ! (λ r1.
         split ! $ move ! (1 ∷ []) $ use1 𝓛 (some (λ (zs : (Session × (Unit {0} × (List ℕ × (Unit {0} × (Unit {0} × (List ℕ × (List ℕ × Unit {0})))))))). ‵ (lasts rm.ended (κ0, (κ1, (κ2, ((ν1-6 ∷ []), ((ν1-cl ∷ []), ((ν1-7 ∷ []), tt)))))) ((record { ref_ptr = (b, o); ghost_name = γ; now = h }), (bk, ((record { ref_ptr = sc.ref_ptr; ghost_name = sc.ghost_name; now = sc.now }), (true, ((record { ref_ptr = (l6, 0); ghost_name = δ1-6; now = 117 ∷ 110 ∷ 115 ∷ 97 ∷ 116 ∷ [] }), ((record { ref_ptr = cl.ref_ptr; ghost_name = δ1-cl; now = cl.now }), ((record { ref_ptr = (l7, 0); ghost_name = δ1-7; now = [] }), tt))))))) zs) ⊛ raw (fact 𝓤 (Returned (called bk.now (record { ref_ptr = (b, o); ghost_name = γ; now = h }).now (reply_with (lent (record { ref_ptr = sc.ref_ptr; ghost_name = sc.ghost_name; now = sc.now }).now (record { ref_ptr = cl.ref_ptr; ghost_name = δ1-cl; now = cl.now }).now (record { ref_ptr = (l7, 0); ghost_name = δ1-7; now = [] }).now) true (record { ref_ptr = (l6, 0); ghost_name = δ1-6; now = 117 ∷ 110 ∷ 115 ∷ 97 ∷ 116 ∷ [] }).now)) (record { answer = r1; session = zs.0 }) zs.1.1.1.1.1.0 zs.1.1.1.1.1.1.0 zs.1.1.0)))) (id⊢ 𝓤 _) $ pick ! (λ zs1.
         split ! $ move ! (1 ∷ []) $ heard ! (Returned (called bk.now (record { ref_ptr = (b, o); ghost_name = γ; now = h }).now (reply_with (lent (record { ref_ptr = sc.ref_ptr; ghost_name = sc.ghost_name; now = sc.now }).now (record { ref_ptr = cl.ref_ptr; ghost_name = δ1-cl; now = cl.now }).now (record { ref_ptr = (l7, 0); ghost_name = δ1-7; now = [] }).now) true (record { ref_ptr = (l6, 0); ghost_name = δ1-6; now = 117 ∷ 110 ∷ 115 ∷ 97 ∷ 116 ∷ [] }).now)) (record { answer = r1; session = zs1.0 }) zs1.1.1.1.1.1.0 zs1.1.1.1.1.1.1.0 zs1.1.1.0) (λ e1.
@@ -158,8 +158,8 @@ module _ {M : Type 1} {𝓤 : Ura M} (𝓛 : Logic 𝓤) (at_mem : Memory → SP
         assigns ! (agg ! (and_then ! (load ! (from ! (stop !)) (look ! 14 refl)) (and_then ! (load ! (from ! (fld ! refl (stop !))) (look_in ! 41 (sub ! 1 refl (whole !)))) (no_more !)))) (from ! (stop !)) (init ! 12 refl ((tt, (tt, (record { fits = room-cl.0 }, tt))))) $
         -- `reply_told`
         move ! (1 ∷ 0 ∷ []) $ group ! 2 $
-        use1 𝓛 (raw ((replyt-of 𝓛 at_mem run).pre (((κ3, tt), (q3, tt), tt, (r1, (k, ((record { ref_ptr = cl.ref_ptr; ghost_name = cl.ghost_name; now = zs1.1.1.1.1.1.0 }), tt))), (EL.val E.the_type E'.the_laws r1 ∷ [], (vint w64 k ∷ [], (slice_val cl.ref_ptr (length cl.now) ∷ [], tt)))), tt))) (qed 𝓛 (‵ (flft κ3 q3) ∷ ‵ ((MutSlice (named 0) κ3 u8).own_val (record { ref_ptr = cl.ref_ptr; ghost_name = cl.ghost_name; now = zs1.1.1.1.1.1.0 }) (slice_val cl.ref_ptr (length cl.now) ∷ [])) ∷ []) ∵ says ! (l1-5 ∙ req.text-length) $ nothing ! $ move ! (2 ∷ 0 ∷ []) $ fjoin ! $ owned ! usize (Is usize) (uint_Makes 𝓛 w64) k _ ((refl, fits-k)) $ fjoin ! $ owned ! E.the_row (Is E.the_row) (EL.makes E.the_type E'.the_plain 𝓛) r1 _ is1 $ fjoin ! $ nothing ! $ move ! (2 ∷ 0 ∷ []) $ join ! $ frame ! $ done !) $
-        calls_at ! fm (replyt-of 𝓛 at_mem run) known-replyt (((κ3, tt), (q3, tt), tt, (r1, (k, ((record { ref_ptr = cl.ref_ptr; ghost_name = cl.ghost_name; now = zs1.1.1.1.1.1.0 }), tt))), (EL.val E.the_type E'.the_laws r1 ∷ [], (vint w64 k ∷ [], (slice_val cl.ref_ptr (length cl.now) ∷ [], tt)))), tt) (and_then ! (load ! (from ! (stop !)) (look ! 35 refl)) (and_then ! (load ! (from ! (stop !)) (look ! 42 refl)) (and_then ! (load ! (from ! (stop !)) (look ! 11 refl)) (no_more !)))) (λ w2.
+        use1 𝓛 (raw ((replyt_of 𝓛 at_mem run).pre (((κ3, tt), (q3, tt), tt, (r1, (k, ((record { ref_ptr = cl.ref_ptr; ghost_name = cl.ghost_name; now = zs1.1.1.1.1.1.0 }), tt))), (EL.val E.the_type E'.the_laws r1 ∷ [], (vint w64 k ∷ [], (slice_val cl.ref_ptr (length cl.now) ∷ [], tt)))), tt))) (qed 𝓛 (‵ (flft κ3 q3) ∷ ‵ ((MutSlice (named 0) κ3 u8).own_val (record { ref_ptr = cl.ref_ptr; ghost_name = cl.ghost_name; now = zs1.1.1.1.1.1.0 }) (slice_val cl.ref_ptr (length cl.now) ∷ [])) ∷ []) ∵ says ! (l1-5 ∙ req.text-length) $ nothing ! $ move ! (2 ∷ 0 ∷ []) $ fjoin ! $ owned ! usize (Is usize) (uint_Makes 𝓛 w64) k _ ((refl, fits-k)) $ fjoin ! $ owned ! E.the_row (Is E.the_row) (EL.makes E.the_type E'.the_plain 𝓛) r1 _ is1 $ fjoin ! $ nothing ! $ move ! (2 ∷ 0 ∷ []) $ join ! $ frame ! $ done !) $
+        calls_at ! fm (replyt_of 𝓛 at_mem run) known-replyt (((κ3, tt), (q3, tt), tt, (r1, (k, ((record { ref_ptr = cl.ref_ptr; ghost_name = cl.ghost_name; now = zs1.1.1.1.1.1.0 }), tt))), (EL.val E.the_type E'.the_laws r1 ∷ [], (vint w64 k ∷ [], (slice_val cl.ref_ptr (length cl.now) ∷ [], tt)))), tt) (and_then ! (load ! (from ! (stop !)) (look ! 35 refl)) (and_then ! (load ! (from ! (stop !)) (look ! 42 refl)) (and_then ! (load ! (from ! (stop !)) (look ! 11 refl)) (no_more !)))) (λ w2.
         use1 𝓛 (later (some (λ (r : Turn). ((‵ (flft κ3 q3) ⊛ ‵ ftrue) ⊛ ‵ ((TU.the_row).own_val r (w2 ∷ []))) ⊛ raw (ensured 𝓛 replyt.ended (replyt.clauses 𝓛 at_mem run) (κ3, tt) (r1, (k, ((record { ref_ptr = cl.ptr; ghost_name = cl.name; now = zs1.1.1.1.1.1.0 }), tt))) tt r)))) (id⊢ 𝓤 _) $ await ! tt $ pick ! (λ r2.
         split ! $ move ! (1 ∷ []) $ use1 𝓛 (some (λ (zs : (Unit {0} × (Unit {0} × (List ℕ × Unit {0})))). ‵ (lasts replyt.ended (κ3, tt) (r1, (k, ((record { ref_ptr = cl.ptr; ghost_name = cl.name; now = zs1.1.1.1.1.1.0 }), tt))) zs) ⊛ raw (fact 𝓤 (Tells (answer_value r1) r2.closed (record { ref_ptr = cl.ptr; ghost_name = cl.name; now = zs1.1.1.1.1.1.0 }).now zs.1.1.0 × (r2.written ≡ k) × (r2.more ≡ true))))) (id⊢ 𝓤 _) $ pick ! (λ zs2.
         split ! $ move ! (1 ∷ []) $ heard ! (Tells (answer_value r1) r2.closed (record { ref_ptr = cl.ptr; ghost_name = cl.name; now = zs1.1.1.1.1.1.0 }).now zs2.1.1.0 × (r2.written ≡ k) × (r2.more ≡ true)) (λ e2.
@@ -175,23 +175,23 @@ module _ {M : Type 1} {𝓤 : Ura M} (𝓛 : Logic 𝓤) (at_mem : Memory → SP
         move ! (31 ∷ 32 ∷ []) $ free1 ! $ move ! (29 ∷ 30 ∷ []) $ free1 ! $ move ! (27 ∷ 28 ∷ []) $ free1 ! $ move ! (25 ∷ 26 ∷ []) $ free1 ! $ move ! (23 ∷ 24 ∷ []) $ free1 ! $
         move ! (21 ∷ 22 ∷ []) $ free1 ! $ move ! (19 ∷ 20 ∷ []) $ free1 ! $ move ! (17 ∷ 18 ∷ []) $ free1 ! $ move ! (15 ∷ 16 ∷ []) $ free1 ! $ move ! (13 ∷ 14 ∷ []) $ free1 ! $
         move ! (11 ∷ 12 ∷ []) $ free1 ! $ free0 ! $ keep ! (6 ∷ 5 ∷ 4 ∷ 0 ∷ 9 ∷ 8 ∷ 1 ∷ []) $
-        by ! (exits r2 zs1.0 zs1.1.1.0 zs2.1.1.0 (reply-closes bk.now h req k e1 e2) l1-2 ((l2-2 ∙ l1-5)) is2)))))))))))))))))))))))))))))))))))))))))))))
+        by ! (exits r2 zs1.0 zs1.1.1.0 zs2.1.1.0 (reply_closes bk.now h req k e1 e2) l1-2 ((l2-2 ∙ l1-5)) is2)))))))))))))))))))))))))))))))))))))))))))))
 
 module _ {M : Type 1} {𝓤 : Ura M} (𝓛 : Logic 𝓤) (at_mem : Memory → SProp 𝓤) (run : Routine → Fun 𝓤) where
   open 𝓛 use {H}
 
-  walks : (C : Calls 𝓤 H) (Λ : Loops 𝓤 H) → FmC 𝓤 H 𝓛.laws C → Triple 𝓤 (C #lent-sessions·reply-mut) (rm-of 𝓛 at_mem run) → Triple 𝓤 (C #script-text·answers·reply-told) (replyt-of 𝓛 at_mem run) → Walks 𝓛 self.ended stayed (WpFn 𝓤 H C Λ code.function) (self.clauses 𝓛 at_mem run)
+  walks : (C : Calls 𝓤 H) (Λ : Loops 𝓤 H) → FmC 𝓤 H 𝓛.laws C → Triple 𝓤 (C #lent-sessions·reply-mut) (rm_of 𝓛 at_mem run) → Triple 𝓤 (C #script-text·answers·reply-told) (replyt_of 𝓛 at_mem run) → Walks 𝓛 self.ended stayed (WpFn 𝓤 H C Λ code.function) (self.clauses 𝓛 at_mem run)
   walks C Λ fm known-rm known-replyt = walked 𝓛 self.ended stayed (self.clauses 𝓛 at_mem run) (WpFn 𝓤 H C Λ code.function) (λ κs. (mut_vals, (shr_slice_vals, (mut_slice_vals, (uint_vals w64, (mut_slice_vals, tt)))))) (λ κs. (mut_Tells (named 0) κs.0 T.the_row, (shr_slice_Tells (named 1) κs.1.0 u8, (mut_slice_Tells (named 2) κs.1.1.0 u8, (uint_Tells w64, (mut_slice_Tells (named 3) κs.1.1.1.0 u8, tt))))))
       (λ κs qs bounds a g are. needs 𝓤 (Desk a.1.1.0.now a.1.1.1.1.0.now) _ (λ req. walk 𝓛 at_mem run κs.0 κs.1.0 κs.1.1.0 κs.1.1.1.0 qs.0 qs.1.0 qs.1.1.0 qs.1.1.1.0 a.0.ref_ptr.0 a.0.ref_ptr.1 a.0.ghost_name a.0.now a.1.0 a.1.1.0 a.1.1.1.0 a.1.1.1.1.0 C Λ fm known-rm known-replyt are.1.0 are.1.1.0.0.1 are.1.1.1.0.1 are.1.1.1.1.0.0.1 req))
 
-meets : {M : Type 1} {𝓤 : Ura M} (𝓛 : Logic 𝓤) → (at_mem : Memory → SProp 𝓤) (run : Routine → Fun 𝓤) (𝓣 : Tables 𝓤 𝓛.H) → Triple 𝓤 (𝓣.C #lent-sessions·reply-mut) (rm-of 𝓛 at_mem run) → Triple 𝓤 (𝓣.C #script-text·answers·reply-told) (replyt-of 𝓛 at_mem run) → Meets 𝓛 self.signature (WpFn 𝓤 𝓛.H 𝓣.C 𝓣.Λ code.function) (self.spec 𝓛 at_mem run)
+meets : {M : Type 1} {𝓤 : Ura M} (𝓛 : Logic 𝓤) → (at_mem : Memory → SProp 𝓤) (run : Routine → Fun 𝓤) (𝓣 : Tables 𝓤 𝓛.H) → Triple 𝓤 (𝓣.C #lent-sessions·reply-mut) (rm_of 𝓛 at_mem run) → Triple 𝓤 (𝓣.C #script-text·answers·reply-told) (replyt_of 𝓛 at_mem run) → Meets 𝓛 self.signature (WpFn 𝓤 𝓛.H 𝓣.C 𝓣.Λ code.function) (self.spec 𝓛 at_mem run)
 meets {𝓤 = 𝓤} 𝓛 at_mem run 𝓣 known-rm known-replyt =
     walk_Meets 𝓛 self.ended stayed (Goes-gave_ref 𝓛 4 0 tt (plain (λ _. T.the_row)), (Goes-dropped 𝓛 4 (shr_slice_of (1 ∷ []) tt (plain (λ _. u8))) yes (λ κs x f. refl), (Goes-gave_slice 𝓛 4 2 tt (plain (λ _. u8)), (Goes-dropped 𝓛 4 (plain (λ _. usize)) yes (λ κs x f. refl), (Goes-gave_slice 𝓛 4 3 tt (plain (λ _. u8)), tt))))) (self.clauses 𝓛 at_mem run) (WpFn 𝓤 𝓛.H 𝓣.C 𝓣.Λ code.function) (WpFn-mono 𝓤 𝓛.H 𝓛.laws 𝓣 code.function) (walks 𝓛 at_mem run 𝓣.C 𝓣.Λ (fm_of 𝓤 𝓛.H 𝓛.laws 𝓣) known-rm known-replyt)
 
-pub reply-turn-spec : {M : Type 1} → stated.statement M
+pub reply_turn_spec : {M : Type 1} → stated.statement M
 unfolding code.routine tables_of
-reply-turn-spec 𝓤 𝓛 𝓜 𝓡 =
+reply_turn_spec 𝓤 𝓛 𝓜 𝓡 =
     entered 𝓤 𝓛.H (triple_of 𝓛 self.signature (self.spec 𝓛 𝓜.mem 𝓡.run))
     (tables 𝓤 𝓛.H 𝓜 𝓡 code.env).C (tables 𝓤 𝓛.H 𝓜 𝓡 code.env).Λ #me code.function (code.unfolded 𝓤 𝓛.H 𝓜 𝓡)
     (meets 𝓛 𝓜.mem 𝓡.run (tables_of 𝓤 𝓛.H 𝓜 (tables 𝓤 𝓛.H 𝓜 𝓡 code.env))
-    (cited 𝓤 𝓛.H (rm-of 𝓛 𝓜.mem 𝓡.run) 𝓜 𝓡 code.env #lent-sessions·reply-mut rm-def.routine code.calls-lent-sessions::reply-mut (rm-thm.met 𝓤 𝓛 𝓜 𝓡)) (cited 𝓤 𝓛.H (replyt-of 𝓛 𝓜.mem 𝓡.run) 𝓜 𝓡 code.env #script-text·answers·reply-told replyt-def.routine code.calls-script-text::answers::reply-told (replyt-thm.met 𝓤 𝓛 𝓜 𝓡)))
+    (cited 𝓤 𝓛.H (rm_of 𝓛 𝓜.mem 𝓡.run) 𝓜 𝓡 code.env #lent-sessions·reply-mut rm-def.routine code.calls-lent-sessions::reply-mut (rm-thm.met 𝓤 𝓛 𝓜 𝓡)) (cited 𝓤 𝓛.H (replyt_of 𝓛 𝓜.mem 𝓡.run) 𝓜 𝓡 code.env #script-text·answers·reply-told replyt-def.routine code.calls-script-text::answers::reply-told (replyt-thm.met 𝓤 𝓛 𝓜 𝓡)))

@@ -1,16 +1,16 @@
 use Rattle.smt_engines.specs.Written.{type_text}
 use native.Mathlib.Omega.{arith}
 use mathlib.Core.Path.{ap}
-use Rattle.records.proofs.Readers.{reads-function}
-use Rattle.basics.proofs.Places.{at-then, at-as}
-use Rattle.smt_engines.proofs.Writers.{function-line}
+use Rattle.records.proofs.Readers.{reads_function}
+use Rattle.basics.proofs.Places.{at_then, at_as}
+use Rattle.smt_engines.proofs.Writers.{function_line}
 use Rattle.smt_engines.proofs.lines.declare_function.Goals as goal
 
 pub field-requires : goal.field-requires
-field-requires c = reads-function c.requires.0 1 (omega arith) c.requires.1
+field-requires c = reads_function c.requires.0 1 (omega arith) c.requires.1
 
 pub put_type-typ-requires : goal.put_type-typ-requires
 put_type-typ-requires c = (c.requires.0, rw c.field.ensures.is (c.requires.0.function _ c.requires.1).typ)
 
 pub returns : goal.returns
-returns c = at-as (function-line _ _) (at-then c.well_formed.1.1.1.0.0 (at-then c.well_formed.1.1.1.0.0 (at-then c.well_formed.1.1.1.0.0 c.put_signature-head.ensures c.put_at-space.ensures) (at-as (ap (type_text _) c.field.ensures.is) c.put_type-typ.ensures)) c.put_at.ensures)
+returns c = at_as (function_line _ _) (at_then c.well_formed.1.1.1.0.0 (at_then c.well_formed.1.1.1.0.0 (at_then c.well_formed.1.1.1.0.0 c.put_signature-head.ensures c.put_at-space.ensures) (at_as (ap (type_text _) c.field.ensures.is) c.put_type-typ.ensures)) c.put_at.ensures)

@@ -1,6 +1,6 @@
-use Rattle.basics.proofs.Places.{at-as}
-use Rattle.smt_engines.proofs.Writers.{model-line}
+use Rattle.basics.proofs.Places.{at_as}
+use Rattle.smt_engines.proofs.Writers.{model_line}
 use Rattle.smt_engines.proofs.lines.get_model.Goals as goal
 
 pub returns : goal.returns
-returns c = at-as model-line c.put_at.ensures
+returns c = at_as model_line c.put_at.ensures

@@ -1,8 +1,8 @@
-use Rattle.solver_expr.proofs.Values.{integer-bare, integer-minus}
+use Rattle.solver_expr.proofs.Values.{integer_bare, integer_minus}
 use Rattle.solver_expr.proofs.SExpr.integer.Goals as goal
 
 pub returns-then-bits-lt-SIGN : goal.returns-then-bits-lt-SIGN
-returns-then-bits-lt-SIGN c = integer-bare c.if-bits-lt-SIGN.true
+returns-then-bits-lt-SIGN c = integer_bare c.if-bits-lt-SIGN.true
 
 pub returns-else-bits-lt-SIGN : goal.returns-else-bits-lt-SIGN
-returns-else-bits-lt-SIGN c = integer-minus c.if-bits-lt-SIGN.false c.ranges.bits.fits
+returns-else-bits-lt-SIGN c = integer_minus c.if-bits-lt-SIGN.false c.ranges.bits.fits
