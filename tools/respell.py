@@ -63,9 +63,9 @@ def prose(text, names):
     return SPAN.sub(lambda m: re.sub(r"[\w'₀-₉-]+", lambda w: whole.get(w[0], w[0]), m[0]), text)
 
 
-def turned(path, text, names):
+def turned(path, text, names, first):
     if path.endswith(".antt"):
-        own = {word for word, files in LEMMAS.items() if any(path.endswith(f"crates/{file}.antt") for file in files)}
+        own = {word for word, files in LEMMAS.items() if first and any(path.endswith(f"crates/{file}.antt") for file in files)}
         for word in own:
             text = re.sub(rf"(?<![\w.'-]){word}(?![\w'-])", word.replace("_", "-"), text)
         if path.endswith(("/Answers.antt", "/Invariants.antt", "/Proof.antt")):
@@ -91,10 +91,13 @@ def files(root):
 def main():
     root = sys.argv[1] if len(sys.argv) > 1 else "."
     names, changed = table(), 0
+    # Only as long as the definitions have their old names is a lemma of a definition's new name told from it.
+    with open(os.path.join(root, "crates/book/specs/Program.antt"), encoding="utf-8") as file:
+        first = "nodeAt" in file.read()
     for path in files(root):
         with open(path, encoding="utf-8") as file:
             text = file.read()
-        new = turned(os.path.realpath(path), text, names)
+        new = turned(os.path.realpath(path), text, names, first)
         if new != text:
             changed += 1
             with open(path, "w", encoding="utf-8") as file:

@@ -10,7 +10,7 @@ use lib.ListN.{length, get_or, length-append, get_or-append, get_or-eq_default}
 use lib.Seq.{get_or_at}
 use Rattle.basics.proofs.Counting.{up_at, length_up}
 use Rattle.book.specs.RExpr.{Boolean}
-use Rattle.book.specs.Program.{axiom_at, node-at}
+use Rattle.book.specs.Program.{axiom_at, node_at}
 use Rattle.book.specs.Book.{Book, axioms, terms, contexts, size, field}
 use Rattle.book.specs.Decode.{custom_literal, kind_of, literal_of, term_over, first_terms, term, literal_by, literal_at, axiom_of, context_of, program}
 
@@ -56,12 +56,12 @@ module _ (b : Book) where
   unfolding program
   literal-at t h = up_at (literal_at b) none (size b terms) t h
 
-  pub node-at : (k : ℕ) → k < size b contexts → node-at (program b) (suc k) ≡ context_of b k
-  unfolding program node-at
+  pub node-at : (k : ℕ) → k < size b contexts → node_at (program b) (suc k) ≡ context_of b k
+  unfolding program node_at
   node-at k h = let e : suc k - 1 ≡ k = omega arith in rw e (up_at (context_of b) _ (size b contexts) k h)
 
-  pub node_behind : (k : ℕ) → size b contexts ≤ k → node-at (program b) (suc k) ≡ record { parent = 0; expr = Boolean true; trace_string = none }
-  unfolding node-at
+  pub node_behind : (k : ℕ) → size b contexts ≤ k → node_at (program b) (suc k) ≡ record { parent = 0; expr = Boolean true; trace_string = none }
+  unfolding node_at
   node_behind k h = get_or-eq_default (program b).contexts _ (omega (arith, contexts_length))
 
   -- ---- whether a term is a literal

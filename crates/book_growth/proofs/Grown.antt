@@ -12,7 +12,7 @@ use Rattle.basics.proofs.Counting.{below_each}
 use Rattle.book.specs.Book.{Book, letters, size, field, letter}
 use Rattle.book.specs.Laid.{section_at, section_count}
 use Rattle.book.proofs.EachSection.{size_positive}
-use Rattle.book_contents.specs.Contents.{laid-out, counts_fit}
+use Rattle.book_contents.specs.Contents.{laid_out, counts_fit}
 use Rattle.book_test.specs.Kept.{Kept}
 use Rattle.book_layout.specs.Layout.{body, count_of, field_in, Fits, book_most}
 use Rattle.book_growth.specs.Growth.{Addition, added, grown_body, grown, Whole, grows_by, grows_within}
@@ -22,7 +22,7 @@ use Rattle.book_layout.proofs.Whole.{length_body}
 use Rattle.book_layout.proofs.Bodies.{field_body, letter_body, field_first, field_second}
 use Rattle.book_layout.proofs.Few.{at_most, few_fit}
 
-module _ (b : Book) (a : Addition) (laid : laid-out b ≡ true) (whole : Whole a) (fits : grows_within b a ≡ true) where
+module _ (b : Book) (a : Addition) (laid : laid_out b ≡ true) (whole : Whole a) (fits : grows_within b a ≡ true) where
   module _ (n : ℕ) (known : n < section_count) where
     length_grown_body : length (grown_body b a (section_at n)) ≡ (section_at n).size * (size b (section_at n) + count_of (added a) (section_at n))
     unfolding grown_body
@@ -44,7 +44,7 @@ module _ (b : Book) (a : Addition) (laid : laid-out b ≡ true) (whole : Whole a
   pub grown_fits : Fits (grown_body b a)
   grown_fits = few_fit (grown_body b a) grown_whole grown_few
 
-  pub grown_laid : laid-out (grown b a) ≡ true
+  pub grown_laid : laid_out (grown b a) ≡ true
   unfolding grown
   grown_laid = laid-out (grown_body b a) grown_fits
 

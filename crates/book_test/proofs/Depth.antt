@@ -7,13 +7,13 @@ use lib.ListN.{length}
 use borrow.Author.Tests.{leb-true}
 use Rattle.basics.proofs.Counting.{below_each}
 use Rattle.book.specs.Book.{Book, contexts, size, field, depth_most}
-use Rattle.book.specs.Program.{Context, node-at, path_up, path, depth}
+use Rattle.book.specs.Program.{Context, node_at, path_up, path, depth}
 use Rattle.book.specs.Decode.{context_of, program}
 use Rattle.book.proofs.Terms.{node-at}
 use Rattle.book_depth.specs.Depth.{steps, node_depth, is_shallow, shallow}
 
 module _ (b : Book) where
-  pub parent_at : (k : ℕ) → k < size b contexts → (node-at (program b) (suc k)).parent ≡ field b contexts k 0
+  pub parent_at : (k : ℕ) → k < size b contexts → (node_at (program b) (suc k)).parent ≡ field b contexts k 0
   unfolding context_of
   parent_at k l = ap (λ (c : Context). c.parent) (node-at b k l)
 

@@ -14,7 +14,7 @@ use Rattle.smt_engines.specs.Reader.{pushes, pops, asks, joins, kind}
 use Rattle.command_lines.specs.declared.kinds.LineKind.{LineKind}
 use Rattle.command_lines.specs.declared.kinds.LineKind.TheVariants.{Push, Pop, CheckSat, GetModel, Joins, Foreign}
 use Rattle.command_lines.specs.declared.parentheses.Scan.TheVariants.{Outside}
-use Rattle.command_lines.specs.CommandLines.{is_printing, scan, is_shut, starts_with, opens_context, is_context, is_command, line_kind, heard_as, is-ours}
+use Rattle.command_lines.specs.CommandLines.{is_printing, scan, is_shut, starts_with, opens_context, is_context, is_command, line_kind, heard_as, is_ours}
 
 abbrev kind_by : (push pop check model context : Bool) → LineKind
 kind_by push pop check model context =
@@ -34,11 +34,11 @@ heard-as line = at (same line CMD_PUSH) (same line CMD_POP) (same line CMD_CHECK
     at false false false false false = refl
 
 -- a line is a command exactly if it has a kind of ours
-pub is-ours : (line : Text) → is_command line ≡ is-ours (line_kind line)
-unfolding is_command line_kind is-ours
+pub is-ours : (line : Text) → is_command line ≡ is_ours (line_kind line)
+unfolding is_command line_kind is_ours
 is-ours line = at (same line CMD_PUSH) (same line CMD_POP) (same line CMD_CHECK_SAT) (same line CMD_GET_MODEL) (is_context line)
   where
-    at : (push pop check model context : Bool) → (push || pop || check || model || context) ≡ is-ours (kind_by push pop check model context)
+    at : (push pop check model context : Bool) → (push || pop || check || model || context) ≡ is_ours (kind_by push pop check model context)
     at true pop check model context = refl
     at false true check model context = refl
     at false false true model context = refl

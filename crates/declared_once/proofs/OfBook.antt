@@ -11,7 +11,7 @@ use Rattle.book.specs.SType.{SConstant}
 use Rattle.book.specs.RExpr.{RExpr, RExprs, RPatterns, is_tag, ROperator, BuiltInOperator, UserDefinedFunction, Boolean, Integer, CustomLiteral, Id, FuncAppl, IfThenElse, LetExpr, QuantifierExpr, []ʳ, ◌∷ʳ◌, []ᵖ, ◌∷ᵖ◌}
 use Rattle.book.specs.Book.{Book, types, constants, functions, terms, size, field, name_text, user_types}
 use Rattle.book.specs.Program.{axiom_at, node_at}
-use Rattle.book.specs.Decode.{custom_literal, built_in, kind_of, type_of, constant_of, function-of, literal_of, term, program}
+use Rattle.book.specs.Decode.{custom_literal, built_in, kind_of, type_of, constant_of, function_of, literal_of, term, program}
 use Rattle.book.proofs.Every.{Asked, EveryR, EveryRs, EveryPs, EveryTerm}
 use Rattle.book_test.specs.Promise.{Promise}
 use Rattle.book_test.proofs.Entries.{entries_each}
@@ -41,7 +41,7 @@ module _ (b : Book) (P : Promise b) where
   types_of (more {a = k} h hs) = all_append (type-of k h) (types_of hs)
 
   pub sorts-of : (x : Symbol) → Of b x → All (Of b) (sorts_of x)
-  unfolding sorts_of constant_of function-of literal_of
+  unfolding sorts_of constant_of function_of literal_of
   sorts-of (a_sort d) o = end
   sorts-of (a_constant v) o = rw o.2 (type-of _ (P.constant o.0 o.1).typ)
   sorts-of (a_function f) o =
@@ -124,7 +124,7 @@ module _ (b : Book) (P : Promise b) where
   constant-of : (k : ℕ) → k < size b constants → Of b (a_constant (constant_of b k))
   constant-of k l = (k, l, refl)
 
-  function-of : (k : ℕ) → k < size b functions → Of b (a_function (function-of b k))
+  function-of : (k : ℕ) → k < size b functions → Of b (a_function (function_of b k))
   function-of k l = (k, l, refl)
 
   operator-of : (t : ℕ) → t < size b terms → kind_of (field b terms t 0) ≡ built_in → OfOperator b (name_text b (field b terms t 1))

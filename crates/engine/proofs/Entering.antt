@@ -9,7 +9,7 @@ use Rattle.basics.specs.Write.{MOST, WroteAt}
 use Rattle.basics.proofs.Places.{at_then, at_as}
 use Rattle.book.specs.Book.{Book, terms, contexts, size, field, depth_most}
 use Rattle.book.specs.RExpr.{RExpr}
-use Rattle.book.specs.Program.{Context, node-at, path, depth}
+use Rattle.book.specs.Program.{Context, node_at, path, depth}
 use Rattle.book.specs.Decode.{context_of, term, program}
 use Rattle.book.proofs.Terms.{node-at}
 use Rattle.book.proofs.Paths.{path_step}
@@ -34,7 +34,7 @@ pub said_then : (x y : List Command) {o o1 o2 : List ℕ} {n r1 r : ℕ} → len
 said_then x y short w1 w2 = at_as (sym (script_append x y)) (at_then short w1 w2)
 
 -- the assertion of a context's term
-node_term : (b : Book) (node t : ℕ) → 0 < node → node ≤ size b contexts → t ≡ field b contexts (node - 1) 1 → (node-at (program b) node).expr ≡ term b t
+node_term : (b : Book) (node t : ℕ) → 0 < node → node ≤ size b contexts → t ≡ field b contexts (node - 1) 1 → (node_at (program b) node).expr ≡ term b t
 unfolding context_of
 node_term b zero t h l e = absurd (omega arith)
 node_term b (suc k) t h l e =
@@ -59,21 +59,21 @@ pushed b P node ns e f g l =
 
 module _ (b : Book) (P : Promise b) (node t : ℕ) {level : ℕ} {ls ls' : List ℕ} {start done : Progress} {o o' : List ℕ}
     (deep : 0 < node) (inside : node ≤ size b contexts) (is : t ≡ field b contexts (node - 1) 1)
-    (at : level ≡ suc (length (path (program b) (node-at (program b) node).parent)))
-    (state : IsState (state_at b (node-at (program b) node).parent) ls start)
+    (at : level ≡ suc (length (path (program b) (node_at (program b) node).parent)))
+    (state : IsState (state_at b (node_at (program b) node).parent) ls start)
     (N : NewSymbols b t level ls ls' start o o' done) where
   s0 : LevelState
-  s0 = push node (standing (program b) (path (program b) (node-at (program b) node).parent))
+  s0 = push node (standing (program b) (path (program b) (node_at (program b) node).parent))
 
   stands : (l : List Command) → Stands (level_state s0.stack s0.levels s0.missing l) level ls start.missing
   unfolding s0
-  stands l = pushed b P node (path (program b) (node-at (program b) node).parent) at state.levels state.missing l
+  stands l = pushed b P node (path (program b) (node_at (program b) node).parent) at state.levels state.missing l
 
   arrived : state_at b node ≡ assume (levelled (program b)) (term b t) (declare_new_symbols (levelled (program b)) (program b) (term b t) s0)
   unfolding standing enter ◌⨟◌ s0
   arrived =
       ap (standing (program b)) (path_step (program b) (good b P).parents node deep)
-      ∙ ap (λ (e : RExpr). assume (levelled (program b)) e (declare_new_symbols (levelled (program b)) (program b) e (push node (standing (program b) (path (program b) (node-at (program b) node).parent)))))
+      ∙ ap (λ (e : RExpr). assume (levelled (program b)) e (declare_new_symbols (levelled (program b)) (program b) e (push node (standing (program b) (path (program b) (node_at (program b) node).parent)))))
       (node_term b node t deep inside is)
 
   commands : (tag : ℕ) → tag ≡ count ls' → node_commands (program b) node ≡ sent_by (declare_new_symbols (levelled (program b)) (program b) (term b t)) s0 ++ (Assume (term b t) tag ∷ [])

@@ -10,7 +10,7 @@ use Rattle.smt_engines.specs.Reader.{asks}
 use Rattle.command_lines.specs.declared.kinds.LineKind.{LineKind}
 use Rattle.command_lines.specs.declared.kinds.LineKind.TheVariants.{Pop, Foreign}
 use Rattle.command_lines.specs.Lines.{line_at}
-use Rattle.command_lines.specs.CommandLines.{is_command, line_kind, heard_as, is-ours}
+use Rattle.command_lines.specs.CommandLines.{is_command, line_kind, heard_as, is_ours}
 use Rattle.command_lines.proofs.Reading.{heard-as, is-ours}
 use Rattle.live_lines.specs.LiveLines.{stays, is_live, last_push, Heard}
 use Rattle.live_lines.proofs.Living.{live_length, lives_more, lives_same}
@@ -31,5 +31,5 @@ module _ (s : Text) (at : ℕ) (starts : List ℕ) (n : ℕ) where
   heard_ask k e p a = record { lives = λ st su l f. lives_same s starts n at k (sym e ∙ p) a st su l f }
 
   pub heard_no : {later : List ℕ} {r : ℕ} {q : LineKind} → is_command (line_at s at) ≡ true → q ≡ line_kind (line_at s at) → q ≡ Foreign → Heard s at starts later n r
-  unfolding is-ours
-  heard_no c e p = absurd (true≢false (sym c ∙ is-ours (line_at s at) ∙ ap is-ours (sym e ∙ p)))
+  unfolding is_ours
+  heard_no c e p = absurd (true≢false (sym c ∙ is-ours (line_at s at) ∙ ap is_ours (sym e ∙ p)))

@@ -15,7 +15,7 @@ use Rattle.smt_engines.proofs.Hearing.{hear_append}
 use Rattle.command_lines.specs.declared.kinds.LineKind.{LineKind}
 use Rattle.command_lines.specs.declared.kinds.LineKind.TheVariants.{Push, Pop, CheckSat, GetModel, Joins, Foreign}
 use Rattle.command_lines.specs.Lines.{line_at, line_end}
-use Rattle.command_lines.specs.CommandLines.{is_command, line_kind, heard_as, is-ours}
+use Rattle.command_lines.specs.CommandLines.{is_command, line_kind, heard_as, is_ours}
 use Rattle.command_lines.proofs.Reading.{heard-as, is-ours, is_push, push_by, joins_by, context_length, push_length}
 use Rattle.live_lines.specs.LiveLines.{script_most, least_line, places, lines_at, stays, is_live, Lives}
 
@@ -68,7 +68,7 @@ told x h = at (line_kind x) refl
 
 -- a command of ours that lives is long enough
 pub live_length : (x : Text) → is_command x ≡ true → is_live x ≡ true → least_line ≤ suc (length x)
-unfolding is-ours is_live stays heard_as is_push
+unfolding is_ours is_live stays heard_as is_push
 live_length x o h = at (line_kind x) refl
   where
     at : (k : LineKind) → line_kind x ≡ k → least_line ≤ suc (length x)
@@ -77,7 +77,7 @@ live_length x o h = at (line_kind x) refl
     at LineKind.CheckSat e = absurd (false≢true (sym (ap stays (heard-as x ∙ ap heard_as e)) ∙ h))
     at LineKind.GetModel e = absurd (false≢true (sym (ap stays (heard-as x ∙ ap heard_as e)) ∙ h))
     at LineKind.Joins e = omega (arith, context_length x (joins_by x e))
-    at LineKind.Foreign e = absurd (true≢false (sym o ∙ is-ours x ∙ ap is-ours e))
+    at LineKind.Foreign e = absurd (true≢false (sym o ∙ is-ours x ∙ ap is_ours e))
 
 -- ---- one live line more
 module _ (s : Text) (starts : List ℕ) (n at : ℕ) where

@@ -15,7 +15,7 @@ use Rattle.solvers.specs.declared.Owed.{Owed}
 use Rattle.solvers.specs.declared.Owed.TheVariants.{Nothing}
 use Rattle.solvers.specs.declared.NarrowSession.{NarrowSession}
 use Rattle.solvers.specs.Image.{head_size, owed_of, head_of, no_session}
-use Rattle.solvers.specs.Narrow.{narrow_session, narrow_of, narrow_kind, narrow_size, write_narrow, no-narrow, is_narrow_image, read_narrow}
+use Rattle.solvers.specs.Narrow.{narrow_session, narrow_of, narrow_kind, narrow_size, write_narrow, no_narrow, is_narrow_image, read_narrow}
 use Rattle.solvers.proofs.Head.{kind_told}
 use Rattle.solvers.proofs.NarrowImage.{length_narrow}
 
@@ -23,11 +23,11 @@ pub narrow_long : (image : List ℕ) → is_narrow_image image ≡ true → leng
 unfolding is_narrow_image
 narrow_long image h = (kind_told narrow_kind narrow_size image h).long
 
-pub no-narrow : {levels : List ℕ} → levels ≡ no_levels → narrow_session 0xFFFFFFFF 0 Nothing levels ≡ no-narrow
-unfolding no-narrow narrow_of no_session
+pub no-narrow : {levels : List ℕ} → levels ≡ no_levels → narrow_session 0xFFFFFFFF 0 Nothing levels ≡ no_narrow
+unfolding no_narrow narrow_of no_session
 no-narrow e = ap (narrow_session 0xFFFFFFFF 0 Nothing) e
 
-pub read_none : (image : List ℕ) {s : NarrowSession} → is_narrow_image image ≡ false → s ≡ no-narrow → s ≡ read_narrow image
+pub read_none : (image : List ℕ) {s : NarrowSession} → is_narrow_image image ≡ false → s ≡ no_narrow → s ≡ read_narrow image
 unfolding read_narrow
 read_none image h e = rw h e
 

@@ -12,7 +12,7 @@ use Rattle.smt_engines.specs.Reader.{cut, Stack, first, over, height, Reader, li
 use Rattle.command_lines.specs.declared.kinds.LineKind.{LineKind}
 use Rattle.command_lines.specs.declared.kinds.LineKind.TheVariants.{Push, Pop, CheckSat, GetModel, Joins, Foreign}
 use Rattle.command_lines.specs.Lines.{line_at, line_end}
-use Rattle.command_lines.specs.CommandLines.{is_command, ended, line_kind, heard_as, is-ours}
+use Rattle.command_lines.specs.CommandLines.{is_command, ended, line_kind, heard_as, is_ours}
 use Rattle.command_lines.proofs.Cutting.{cut_at, cut_behind, hear_at, end_short, ended_at}
 use Rattle.command_lines.proofs.Reading.{heard-as, is-ours, is_check, check_by}
 use Rattle.script_checks.specs.declared.Checks.TheVariants as answers
@@ -121,12 +121,12 @@ module _ (s : Text) (at : ℕ) (h : at < length s) where
     unfolding hear
     heard st k e = ap {B = Reader} (λ j. hear_kind j (line_at s at) st) (heard-as (line_at s at) ∙ ap heard_as e)
 
-    ours : (k : LineKind) → line_kind (line_at s at) ≡ k → is_command (line_at s at) ≡ is-ours k
-    ours k e = is-ours (line_at s at) ∙ ap is-ours e
+    ours : (k : LineKind) → line_kind (line_at s at) ≡ k → is_command (line_at s at) ≡ is_ours k
+    ours k e = is-ours (line_at s at) ∙ ap is_ours e
 
     -- one line on
     module _ {depth n : ℕ} (u : Upto s at depth n) where
-      on : (k : LineKind) → line_kind (line_at s at) ≡ k → is-ours k ≡ true → (su : Stack) → hear_kind (heard_as k) (line_at s at) u.stack ≡ live su
+      on : (k : LineKind) → line_kind (line_at s at) ≡ k → is_ours k ≡ true → (su : Stack) → hear_kind (heard_as k) (line_at s at) u.stack ≡ live su
           → (d m : ℕ) → height su ≡ suc d → m ≡ n + length (noted (is_check k) (live u.stack)) → m ≤ suc at → d ≤ suc at → Upto s (suc (line_end s at)) d m
       unfolding line_end foreign_from
       on k e o su q d m t c few deep =
@@ -142,7 +142,7 @@ module _ (s : Text) (at : ℕ) (h : at < length s) where
 
       -- by the line's kind
       pub go_on : {d m : ℕ} {k : LineKind} {r : Turn} → k ≡ line_kind (line_at s at) → r ≡ turned k depth n → r ≡ On d m → Upto s (suc (line_end s at)) d m
-      unfolding turned heard_as is-ours hear_kind is_check noted
+      unfolding turned heard_as is_ours hear_kind is_check noted
       go_on {d} {m} {k} {r} e t o = by k (sym e) (sym t ∙ o)
         where
           by : (k : LineKind) → line_kind (line_at s at) ≡ k → turned k depth n ≡ On d m → Upto s (suc (line_end s at)) d m
@@ -168,7 +168,7 @@ module _ (s : Text) (at : ℕ) (h : at < length s) where
           by LineKind.Foreign q z = let f : ◌≡◌ {A = ℕ} 0 1 = cc in absurd (omega arith)
 
       pub go_stop : {k : LineKind} {r : Turn} → k ≡ line_kind (line_at s at) → r ≡ turned k depth n → r ≡ Stop → is_foreign s ≡ true
-      unfolding turned heard_as is-ours hear_kind
+      unfolding turned heard_as is_ours hear_kind
       go_stop {k} e t o = u.foreign ∙ by k (sym e) (sym t ∙ o)
         where
           by : (k : LineKind) → line_kind (line_at s at) ≡ k → turned k depth n ≡ Stop → foreign_from s at u.stack ≡ true

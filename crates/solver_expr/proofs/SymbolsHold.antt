@@ -11,7 +11,7 @@ use Rattle.book.specs.Book.{Book}
 use Rattle.book.specs.SType.{SType, SBool, SInt, SUserType}
 use Rattle.book.specs.RExpr.{Literal, is_tag}
 use Rattle.book.specs.Decode.{constant_of, function_of, literal_of}
-use Rattle.book_names.specs.Names.{plain-type, literal_named}
+use Rattle.book_names.specs.Names.{plain_type, literal_named}
 use Rattle.book_names.proofs.Looked.{literal_plain}
 use Rattle.book_test.specs.BookTest.{book_test}
 use Rattle.book_test.proofs.Promise.{promise}
@@ -19,8 +19,8 @@ use Rattle.solver_expr.specs.SolverExpr.{type_to_string}
 use Rattle.solver_expr.specs.Lowering.{literal_name}
 use Rattle.solver_expr.specs.SymbolsHold.{SymbolsHold}
 
-plain-type : (t : SType) → plain-type t ≡ true → has_bar (type_to_string t) ≡ false
-unfolding plain-type type_to_string has_bar all plain
+plain-type : (t : SType) → plain_type t ≡ true → has_bar (type_to_string t) ≡ false
+unfolding plain_type type_to_string has_bar all plain
 plain-type SBool h = refl
 plain-type SInt h = refl
 plain-type (SUserType d) h = not-true (has_bar d.name) h

@@ -24,7 +24,7 @@ use Rattle.book_test.proofs.KeptRecords.{type_of_kept}
 use Rattle.basics.proofs.Counting.{up_goes_on}
 use Rattle.book_test.proofs.KeptProgram.{context_of_kept}
 use Rattle.name_search.specs.Names.{texts}
-use Rattle.new_records.specs.Drafts.{Draft, new_constant, true_term, identifier, equality, new_node, constant_row, term_row, node-row, addition_from}
+use Rattle.new_records.specs.Drafts.{Draft, new_constant, true_term, identifier, equality, new_node, constant_row, term_row, node_row, addition_from}
 use Rattle.new_records.specs.Naming.{equals}
 use Rattle.writer_bodies.specs.Bodies.{Eq, context_node, new_sconstant}
 use Rattle.writer_bodies.proofs.Drafted.{book_with, Grew, NewRow, old_laid, kept, new_promise, old_promise, types_new, contexts_new, constants_new, constant_field, term_field, term_below, node_field}
@@ -116,8 +116,8 @@ module _ (b : Book) (d : Draft) (G : Grew b d) where
   none_made e = goes_on (ap length e)
 
   module _ (p t n : ℕ) (e : d.nodes ≡ new_node p t n ∷ []) where
-    node-row : NewRow b contexts (map node-row d.nodes) (size b contexts) (p ∷ t ∷ n ∷ [])
-    unfolding node-row
+    node-row : NewRow b contexts (map node_row d.nodes) (size b contexts) (p ∷ t ∷ n ∷ [])
+    unfolding node_row
     node-row = record { k = 0; here = rw e (omega arith); place = omega arith; is = rw e }
 
     pub trace_inside : n < 2 ^ 32 → n ≤ size (book_with b d) names
