@@ -32,7 +32,8 @@ pub fn move_mut(
     s.node = moved.session.node;
     s.goal = moved.session.goal;
     s.owed = moved.session.owed;
-    s.levels = moved.session.levels;
+    let left = moved.session.levels;
+    s.levels = left;
     moved.answer
 }
 
@@ -60,7 +61,8 @@ pub fn ask_mut(
     s.node = asked.session.node;
     s.goal = asked.session.goal;
     s.owed = asked.session.owed;
-    s.levels = asked.session.levels;
+    let left = asked.session.levels;
+    s.levels = left;
     asked.answer
 }
 
@@ -89,7 +91,8 @@ pub fn reply_mut(
     s.node = replied.session.node;
     s.goal = replied.session.goal;
     s.owed = replied.session.owed;
-    s.levels = replied.session.levels;
+    let left = replied.session.levels;
+    s.levels = left;
     replied.answer
 }
 
@@ -119,6 +122,7 @@ pub fn model_mut(
     s.node = closed.session.node;
     s.goal = closed.session.goal;
     s.owed = closed.session.owed;
-    s.levels = closed.session.levels;
+    let left = closed.session.levels;
+    s.levels = left;
     closed.answer
 }

@@ -1,7 +1,7 @@
 #![tactic(auto)]
 // Reads a book and calls from standard input, and prints what a session sends for them: document 01's program.
 // Its output is `script_output` of crate script_text; docs/SCRIPT.md says what is proved of that and what is only tested.
-// An `Err` is a read or a write of a standard stream that failed, and nothing else.
+// An `Err` is a read or a write of a standard stream that failed, and nothing else. The buffers hold anything then, as they do after an `Ok`.
 ghost use Rattle.std.specs.Prelude.{◌≡◌, ◌<◌, ◌≤◌, length, take, drop, IfOk};
 ghost use Rattle.std.specs.Io.KnownBytes.{Consumes, IsAtEnd};
 ghost use Rattle.basics.specs.Buffer.{scratch_least};
@@ -66,7 +66,8 @@ fn print_texts(
     closing: &mut [u8],
 ) -> io::Result<usize>
     requires { (at < length calls.now) × (turn.written ≤ length text.old) × (turn.closed ≤ length closing.old) }
-    ensures { IfOk result (λ next. next ≡ next_place turn.more at (length calls.now)) }
+    ensures ok { IfOk result (λ next. next ≡ next_place turn.more at (length calls.now)) }
+    ensures kept { (text.new ≡ text.old) × (closing.new ≡ closing.old) }
 {
     let written = turn.written;
     rt.write_all(&text[..written])?;

@@ -1,4 +1,3 @@
-pub mod Again
 pub mod Telling
 pub mod Turning
 pub mod Cut

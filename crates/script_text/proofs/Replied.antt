@@ -1,27 +1,25 @@
 -- The reply to an accepted ask is accepted, in any session that the ask was accepted in.
-use Prim.Native.Nat.{ℕ, ◌≤◌}
+use Prim.Native.Nat.{ℕ}
 use native.Mathlib.Omega.{arith}
-use mathlib.Core.Path.{◌≡◌, refl, ap, sym, ◌∙◌}
-use mathlib.Core.Bool.{Bool, true, false, not, ◌||◌}
-use mathlib.Core.List.{List, [], ◌∷◌}
+use mathlib.Core.Path.{◌≡◌, refl}
+use mathlib.Core.Bool.{Bool, true, false, ◌||◌}
 use lib.Dec.{leb, ltb}
 use lib.ListN.{length, replicate, length-replicate}
-use borrow.Author.Tests.{le-ltb, not-false}
+use borrow.Author.Tests.{le-ltb}
 use Rattle.basics.specs.Text.{ascii, same}
 use Rattle.basics.specs.Outcome.{Outcome, refused, accepted, refuse, ◌>>◌}
-use Rattle.basics.specs.Buffer.{scratch_least}
 use Rattle.book.specs.Book.{Book, terms, contexts, size}
 use Rattle.book.specs.Decode.{program}
 use Rattle.book_test.specs.BookTest.{ready}
 use Rattle.book_test.proofs.Outcomes.{ready_passed}
 use Rattle.book_test.proofs.Promise.{promise}
-use Rattle.smt_engines.specs.Command.{Pop, script, command_to_string}
+use Rattle.smt_engines.specs.Command.{script, command_to_string}
 use Rattle.smt_engines.specs.SmtEngines.{CMD_POP}
 use Rattle.solvers.specs.declared.Owed.{Owed}
 use Rattle.solvers.specs.declared.Owed.TheVariants.{Nothing, Reply}
 use Rattle.solvers.specs.declared.Session.{Session}
 use Rattle.solvers.specs.Session.{Written, Proved, text_of, closed, is_unsat, replied, give_reply}
-use Rattle.solvers.specs.Calls.{owes, is_session, reason_of, fitting, ask_for, reply_with, call, ask_call, reply_call}
+use Rattle.solvers.specs.Calls.{owes, is_session, reason_of, fitting, ask_for, call, ask_call, reply_call}
 use Rattle.solvers.specs.Rule.{Present, present, next, session_at}
 use Rattle.solvers.proofs.Root.{G, T}
 use Rattle.solvers.proofs.Questions.{Fits, Kept, owes_nothing, is-session}

@@ -1,9 +1,9 @@
 -- What stands at the front of a buffer after a line is written, or after a call.
-use Prim.Native.Nat.{ℕ, ◌+◌, ◌<◌, ◌≤◌, min}
+use Prim.Native.Nat.{ℕ, ◌<◌, ◌≤◌}
 use native.Mathlib.Omega.{arith}
-use mathlib.Core.Path.{◌≡◌, refl, ap, sym, ◌∙◌}
-use mathlib.Core.List.{List, []}
-use lib.ListN.{length, take}
+use mathlib.Core.Path.{◌≡◌, refl, ◌∙◌}
+use mathlib.Core.List.{List}
+use lib.ListN.{length}
 use Rattle.basics.specs.Text.{Text}
 use Rattle.basics.specs.Basics.{nat2_string, int2_string_no_leading_zero}
 use Rattle.basics.specs.Buffer.{overlay, buffer_after}
@@ -17,7 +17,7 @@ use Rattle.solvers.specs.Session.{Written, text_of}
 use Rattle.solvers.specs.Calls.{Host}
 use Rattle.solvers.specs.declared.Answer.{Answer}
 use Rattle.solvers.specs.declared.Answer.TheVariants as answer
-use Rattle.solvers.specs.Left.{answer_value, values, values_by}
+use Rattle.solvers.specs.Left.{answer_value, values}
 use Rattle.solvers.specs.Taken.{text_length}
 use Rattle.solvers.proofs.Taken.{FitsIn, by_length}
 use Rattle.script_text.specs.Script.{text_size, stopped, refused_line, told}

@@ -1,5 +1,5 @@
 // One call of the input, whole, on the program's session: the session is lent to the call, and unsat is replied to an accepted ask.
-// What has the session behind a reference is proved by a walk of its MIR, so all that can be is split off it, into `answers` and `reading`.
+// What needs no session is split off, into `answers` and `reading`.
 ghost use Rattle.std.specs.Prelude.{◌≡◌, [], ◌≤◌, length, drop};
 ghost use Rattle.script_text.specs.Script.{text_size, moving, asking, shape, turn};
 ghost use Rattle.script_text.specs.Turned.{Desk, Turned, Closes};
