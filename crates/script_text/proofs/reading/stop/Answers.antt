@@ -1,6 +1,6 @@
 use mathlib.Core.Path.{refl}
-use Rattle.script_text.proofs.Shapes.{wants-stop}
+use Rattle.script_text.proofs.Shapes.{wants_stop}
 use Rattle.script_text.proofs.reading.stop.Goals as goal
 
 pub returns : goal.returns
-returns c = wants-stop _ refl
+returns c = wants_stop _ refl

@@ -1,5 +1,5 @@
-use Rattle.script_text.proofs.Turning.{reply-closes}
+use Rattle.script_text.proofs.Turning.{reply_closes}
 use Rattle.script_text.proofs.turns.reply_turn.Goals as goal
 
 pub returns : goal.returns
-returns c = reply-closes c.args.book.now c.args.s.now c.requires c.args.written c.reply_mut-answer.ensures c.reply_told.ensures
+returns c = reply_closes c.args.book.now c.args.s.now c.requires c.args.written c.reply_mut-answer.ensures c.reply_told.ensures
