@@ -1,5 +1,5 @@
 #![tactic(auto)]
-// Reads a book and calls from standard input, and prints what a session sends for them: document 01's program.
+// Reads a book and calls from standard input, and prints what a session sends for them.
 // Its output is `script_output` of crate script_text; docs/SCRIPT.md says what is proved of that and what is only tested.
 // An `Err` is a read or a write of a standard stream that failed, and nothing else. The buffers hold anything then, as they do after an `Ok`.
 ghost use Rattle.std.specs.Prelude.{◌≡◌, ◌<◌, ◌≤◌, length, take, drop, IfOk};
