@@ -78,7 +78,8 @@ pub fn put_part(
     sum(before, name)
 }
 
-// Part i where it is a row: what stands before it, and its parenthesis.
+// Part i where it is a row: what stands before it, and its parenthesis. Not inlined: its values would cost stack in each nested call.
+#[inline(never)]
 pub fn open_part(i: usize, newlines: bool, indent: usize, out: &mut [u8]) -> usize
     ensures { WroteIn newlines indent (open_part i) out.old out.new result }
 {

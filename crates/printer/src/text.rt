@@ -1,6 +1,10 @@
 // ToString of rows.
 ghost use Rattle.sexpr_rows.specs.Rows.{ReadyRow};
-ghost use Rattle.printer.specs.Printing.{WroteIn, ReadyExpr, row_text, expr_text};
+ghost use Rattle.std.specs.Prelude.{◌≡◌};
+ghost use Rattle.sexpr_names.specs.Names.{ReadyName};
+ghost use Rattle.sexpr_rows.specs.declared.Turn.TheVariants.{Name};
+ghost use Rattle.solver_expr.specs.declared.SName.{SName};
+ghost use Rattle.printer.specs.Printing.{WroteIn, ReadyExpr, name_part, row_text, expr_text};
 
 use super::SExprPrintConfig;
 use super::layout::{indent_behind, open_part, put_part};
@@ -8,6 +12,26 @@ use basics::{clip, put, repeat, sum};
 use sexpr_names::name_to_string;
 use sexpr_rows::{Turn, turn_of};
 use solver_expr::{SExpr, SRow};
+
+// Part i where its turn is a name. Not inlined, and the turn is handed on whole: the name's own place would cost stack in each nested call.
+#[inline(never)]
+fn put_name(
+    book: &[u8],
+    turn: Turn,
+    tag: u64,
+    i: usize,
+    newlines: bool,
+    indent: usize,
+    out: &mut [u8],
+) -> usize
+    requires { (n : SName) → turn ≡ Name n → ReadyName book.now n }
+    ensures { (n : SName) → turn ≡ Name n → WroteIn newlines indent (name_part book.now tag n i) out.old out.new result }
+{
+    match turn {
+        Turn::Name(n) => put_part(book, n, tag, i, newlines, indent, out),
+        _ => 0,
+    }
+}
 
 // The parts of a row, and the parenthesis that closes it. A row that is the last part is printed in its turn: its parenthesis closes with the others, and only a row before other parts costs a call.
 fn parts_to_string(
@@ -30,8 +54,8 @@ fn parts_to_string(
     loop {
         let k = clip(n, out.len());
         match turn {
-            Turn::Name(name) => {
-                let m = put_part(book, name, tag, i, newlines, at, &mut out[k..]);
+            Turn::Name(_) => {
+                let m = put_name(book, turn, tag, i, newlines, at, &mut out[k..]);
                 n = sum(n, m);
                 at = indent_behind(i, newlines, at);
                 i += 1;
@@ -48,10 +72,10 @@ fn parts_to_string(
                 turn = turn_of(book, p, i);
             }
             Turn::Last(q) => {
+                p = q;
                 let m = open_part(i, newlines, at, &mut out[k..]);
                 n = sum(n, m);
                 pending = sum(pending, 1);
-                p = q;
                 i = 0;
                 turn = turn_of(book, p, i);
             }

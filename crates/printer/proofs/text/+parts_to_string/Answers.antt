@@ -8,8 +8,8 @@ turn_of-turn-requires t c = c.requires
 pub loop-turn-init : goal.loop-turn-init
 loop-turn-init t c = start _ c.requires c.turn_of-turn.ensures
 
-pub put_part-m-requires : goal.put_part-m-requires
-put_part-m-requires t c = name_ready c.well_formed.1.1.1.1.1.0.0 c.loop-turn.invariant c.clip-k.ensures c.in-Name.is
+pub put_name-m-requires : goal.put_name-m-requires
+put_name-m-requires t c = λ n e. name_ready c.well_formed.1.1.1.1.1.0.0 c.loop-turn.invariant c.clip-k.ensures e
 
 pub overflow_add-i : goal.overflow_add-i
 overflow_add-i t c = omega (arith, (at_name c.in-Name.is c.loop-turn.invariant.turned).soon)
@@ -21,7 +21,7 @@ pub loop-turn-smaller-in-Name : goal.loop-turn-smaller-in-Name
 loop-turn-smaller-in-Name t c = name_falls c.well_formed.1.1.1.1.1.0.0 c.loop-turn.invariant c.clip-k.ensures c.in-Name.is
 
 pub loop-turn-preserved-in-Name : goal.loop-turn-preserved-in-Name
-loop-turn-preserved-in-Name t c = name_more c.well_formed.1.1.1.1.1.0.0 c.loop-turn.invariant c.clip-k.ensures c.in-Name.is c.put_part-m.ensures c.put_part-m.auto.out c.sum-n.ensures c.indent_behind-at.ensures c.turn_of-turn-in-Name.ensures
+loop-turn-preserved-in-Name t c = name_more c.well_formed.1.1.1.1.1.0.0 c.loop-turn.invariant c.clip-k.ensures c.in-Name.is (c.put_name-m.ensures _ c.in-Name.is) c.put_name-m.auto.out c.sum-n.ensures c.indent_behind-at.ensures c.turn_of-turn-in-Name.ensures
 
 pub parts_to_string-m2-requires : goal.parts_to_string-m2-requires
 parts_to_string-m2-requires t c = (omega (arith, row_lighter c.well_formed.1.1.1.1.1.0.0 c.loop-turn.invariant c.clip-k.ensures c.in-Row.is, c.decreases), row_ready c.well_formed.1.1.1.1.1.0.0 c.loop-turn.invariant c.clip-k.ensures c.in-Row.is)
