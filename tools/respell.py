@@ -85,7 +85,8 @@ def files(root):
             yield start
         for folder, inner, found in os.walk(start):
             inner[:] = sorted(it for it in inner if it != "out")
-            yield from (os.path.join(folder, it) for it in sorted(found) if it.endswith(kinds))
+            # docs/PORT.md has the old names beside the new.
+            yield from (os.path.join(folder, it) for it in sorted(found) if it.endswith(kinds) and it != "PORT.md")
 
 
 def main():
