@@ -30,7 +30,9 @@ LEMMAS = {
 
 def table():
     with open(os.path.join(HERE, "respell.tsv"), encoding="utf-8") as rows:
-        return dict(row.rstrip("\n").split("\t") for row in rows)
+        names = dict(row.rstrip("\n").split("\t") for row in rows)
+    # A word may be turned twice: first its humps, then its hyphens.
+    return {old: names.get(new, new) for old, new in names.items()}
 
 
 def words(text, names):
