@@ -43,26 +43,17 @@ def words(text, names):
 MADE = re.compile(r"(?<![\w.'-])(?:c|w|l)(?:\.before)*\.[^\s(){}.;,@\"«»`]+|\b(?:goal|tie|need|given)\.[^\s(){}.;,]+")
 
 
-def in_proof(text, names):
-    """Of a function's proof: names that the check makes stay."""
+def outside(kept, text, names):
+    """Turns the words of a text but for what the pattern finds."""
     parts, at = [], 0
-    for made in MADE.finditer(text):
-        parts += [words(text[at : made.start()], names), made[0]]
-        at = made.end()
-    return "".join(parts) + words(text[at:], names)
-
-
-def outside_quotes(text, names):
-    parts, at = [], 0
-    for quoted in QUOTED.finditer(text):
-        parts += [words(text[at : quoted.start()], names), quoted[0]]
-        at = quoted.end()
+    for found in kept.finditer(text):
+        parts += [words(text[at : found.start()], names), found[0]]
+        at = found.end()
     return "".join(parts) + words(text[at:], names)
 
 
 def prose(text, names):
-    whole = {**names}
-    return SPAN.sub(lambda m: re.sub(r"[\w'₀-₉-]+", lambda w: whole.get(w[0], w[0]), m[0]), text)
+    return SPAN.sub(lambda m: re.sub(r"[\w'₀-₉-]+", lambda w: names.get(w[0], w[0]), m[0]), text)
 
 
 def turned(path, text, names, first):
@@ -71,10 +62,10 @@ def turned(path, text, names, first):
         for word in own:
             text = re.sub(rf"(?<![\w.'-]){word}(?![\w'-])", word.replace("_", "-"), text)
         if path.endswith(("/Answers.antt", "/Invariants.antt", "/Proof.antt")):
-            return in_proof(text, names)
-        return outside_quotes(text, names)
+            return outside(MADE, text, names)
+        return outside(QUOTED, text, names)
     if path.endswith(".rt"):
-        return outside_quotes(text, names)
+        return outside(QUOTED, text, names)
     if path.endswith(".edit"):
         return words(text, names)
     return prose(text, names)
