@@ -1,10 +1,16 @@
 -- A number's digits: the fuel doesn't count, so the recursion is Dafny's.
-use Prim.Native.Nat.{ℕ, zero, suc, ◌+◌, ◌/◌, ◌%◌, ◌≤◌, ◌<◌}
+use Prim.Native.Nat.{ℕ, zero, suc, ◌+◌, ◌/◌, ◌%◌, ◌^◌, ◌≤◌, ◌<◌}
 use native.Mathlib.Omega.{arith}
 use mathlib.Core.Path.{◌≡◌, refl, sym, ap, ◌∙◌}
 use mathlib.Core.List.{[], ◌∷◌, ◌++◌}
+use lib.ListN.{length}
+use lib.IntN.{ℤ, pos, negsuc}
+use mir.Syntax.{w64}
+use mir.Val.{SFits}
+use Rattle.std.specs.Fmt.{decimal, signed_decimal}
+use Rattle.std.proofs.lemmas.Fmt.{decimal_from_appends}
 use Rattle.basics.specs.Text.{Text}
-use Rattle.basics.specs.Basics.{int2_string_no_leading_zero, nat2_string}
+use Rattle.basics.specs.Basics.{int2_string_no_leading_zero, nat2_string, int2_string}
 
 same_digits : (f g x : ℕ) → x ≤ f → x ≤ g → int2_string_no_leading_zero f x ≡ int2_string_no_leading_zero g x
 unfolding int2_string_no_leading_zero
@@ -41,3 +47,12 @@ nat_last (suc n) h =
     let q : suc n / 10 ≡ 0 = omega arith in
     let r : suc n % 10 ≡ suc n = omega arith in
     digits_step (suc n) (λ e. omega arith) ∙ rw (q, r)
+
+-- the library's text of a number
+pub nat_decimal : (n : ℕ) → n < 2 ^ 64 → decimal n ≡ nat2_string n
+nat_decimal n h = sym (decimal_from_appends (λ k x. nat2_string x) (record { one = λ k x l. nat_last x l; more = λ k x l. nat_more x l }) (length (decimal n)) n h (omega arith))
+
+pub int_decimal : (x : ℤ) → SFits w64 x → signed_decimal x ≡ int2_string x
+unfolding int2_string
+int_decimal (pos n) f = nat_decimal n (omega (arith, f.sfits))
+int_decimal (negsuc n) f = rw (nat_decimal (suc n) (omega (arith, f.sfits)))

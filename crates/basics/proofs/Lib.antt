@@ -11,5 +11,4 @@ pub mod Bits
 mod Stepping
 mod Writing
 mod Signs
-mod DigitArray
 pub mod Loops

@@ -8,6 +8,7 @@ use lib.Dec.{eqb}
 use lib.ListN.{length, get_or}
 use lib.Seq.{ext_get_or}
 use borrow.Author.Tests.{eqb-true, eq-eqb}
+use Rattle.std.specs.Cmp.Lexicographic.{pointwise}
 use Rattle.basics.specs.Text.{Text, same}
 use Rattle.basics.proofs.Bool.{and_both, and_assoc}
 
@@ -24,6 +25,14 @@ same_eq (x ∷ a) [] e = absurd (false≢true e)
 same_eq (x ∷ a) (y ∷ b) e =
     let r = and_both (eqb x y) (same a b) e in
     ap₂ {B = List ℕ} {C = List ℕ} (λ c d. c ∷ d) (eqb-true x y r.0) (same_eq a b r.1)
+
+-- as the library compares slices
+pub same_pointwise : (a b : Text) → pointwise eqb a b ≡ same a b
+unfolding same
+same_pointwise [] [] = refl
+same_pointwise [] (y ∷ b) = refl
+same_pointwise (x ∷ a) [] = refl
+same_pointwise (x ∷ a) (y ∷ b) = rw (same_pointwise a b) refl
 
 pub same_yes : {a b : Text} → a ≡ b → true ≡ same a b
 same_yes {a} {b} e = rw e (sym (same_refl b))

@@ -8,27 +8,15 @@ const STEP: usize = 8;
 
 const HALF: usize = 4;
 
-// What a byte counts by its place in half a step, and what the second half counts.
-const SECOND: usize = 0x100;
-
-const THIRD: usize = 0x10000;
-
-const FOURTH: usize = 0x1000000;
-
+// What the second half counts.
 const UPPER: usize = 0x100000000;
-
-fn wide(x: u8) -> usize
-    ensures { (result ≡ x) × (result < 256) }
-{
-    x as usize
-}
 
 // The four bytes at i as one number. That each is below 256 has to be told, so that equal numbers are equal bytes.
 fn four(a: &[u8], i: usize) -> usize
     requires { i + 4 ≤ length a.now }
     ensures { (result ≡ four_at a.now i) × Four a.now i }
 {
-    wide(a[i]) + SECOND * wide(a[i + 1]) + THIRD * wide(a[i + 2]) + FOURTH * wide(a[i + 3])
+    u32::from_le_bytes([a[i], a[i + 1], a[i + 2], a[i + 3]]) as usize
 }
 
 // The eight bytes at i as one number.
@@ -48,12 +36,10 @@ fn same_long(a: &[u8], b: &[u8]) -> bool
     if eight(a, last) != eight(b, last) {
         return false;
     }
-    let mut i = 0;
-    while i < last {
+    for i in (0..last).step_by(STEP) {
         if eight(a, i) != eight(b, i) {
             return false;
         }
-        i += STEP;
     }
     true
 }
@@ -63,14 +49,7 @@ fn same_short(a: &[u8], b: &[u8]) -> bool
     requires { length a.now ≡ length b.now }
     ensures { result ≡ same a.now b.now }
 {
-    let mut i = 0;
-    while i < a.len() {
-        if a[i] != b[i] {
-            return false;
-        }
-        i += 1;
-    }
-    true
+    a == b
 }
 
 // Two slices hold the same bytes.

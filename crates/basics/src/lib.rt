@@ -12,7 +12,7 @@ pub use decimal::{SIGN, put_i64, put_int, put_u64};
 pub use letters::same;
 pub use place::put_at;
 pub use word::put_word;
-pub use write::{MOST, clip, put, put_all, repeat, spaces, sum};
+pub use write::{clip, put, put_all, repeat, spaces, sum};
 
 // The least scratch that a call takes.
 pub const SCRATCH_LEAST: usize = 128;

@@ -3,29 +3,26 @@ ghost use Rattle.std.specs.Prelude.{◌≡◌, [], ◌∷◌, ◌+◌, min};
 ghost use Rattle.basics.specs.Text.{space_byte};
 ghost use Rattle.basics.specs.Write.{MOST, Wrote, WroteRepeat};
 
-// The largest length, at which a longer one stays.
-pub const MOST: usize = 0xffff_ffff_ffff_ffff;
-
-// The sum of two lengths.
+// The sum of two lengths. One that is too long stays at the largest.
 pub fn sum(a: usize, b: usize) -> usize
     ensures { result ≡ min (a + b) MOST }
 {
-    if a <= MOST - b { a + b } else { MOST }
+    a.saturating_add(b)
 }
 
 // Where a text of n bytes ends in a buffer of `room` bytes.
 pub fn clip(n: usize, room: usize) -> usize
     ensures { result ≡ min n room }
 {
-    if n <= room { n } else { room }
+    n.min(room)
 }
 
 // Writes one byte.
 pub fn put(b: u8, out: &mut [u8]) -> usize
     ensures { Wrote (b ∷ []) out.old out.new result }
 {
-    if 0 < out.len() {
-        out[0] = b;
+    if let Some(first) = out.first_mut() {
+        *first = b;
     }
     1
 }
@@ -34,14 +31,9 @@ pub fn put(b: u8, out: &mut [u8]) -> usize
 pub fn put_all(text: &[u8], out: &mut [u8]) -> usize
     ensures { Wrote text.now out.old out.new result }
 {
-    let whole = text.len();
-    let end = clip(whole, out.len());
-    let mut i = 0;
-    while i < end {
-        out[i] = text[i];
-        i += 1;
-    }
-    whole
+    let end = clip(text.len(), out.len());
+    out[..end].copy_from_slice(&text[..end]);
+    text.len()
 }
 
 // Writes a byte n times. What is behind the buffer's end is not counted one by one.
@@ -49,11 +41,7 @@ pub fn repeat(b: u8, n: usize, out: &mut [u8]) -> usize
     ensures { WroteRepeat b n out.old out.new result }
 {
     let end = clip(n, out.len());
-    let mut at = 0;
-    while at < end {
-        out[at] = b;
-        at += 1;
-    }
+    out[..end].fill(b);
     n
 }
 

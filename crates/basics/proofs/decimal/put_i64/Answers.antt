@@ -1,23 +1,9 @@
-use Rattle.basics.proofs.Laws.{wrote_as, wrote_then}
-use Rattle.basics.proofs.Signs.{text_negative, text_positive}
+use mathlib.Core.Path.{◌∙◌}
+use mir.Syntax.{w64}
+use mir.ValLaws.{to_z-of_z}
+use Rattle.basics.proofs.Laws.{wrote_as}
+use Rattle.basics.proofs.Digits.{int_decimal}
 use Rattle.basics.proofs.decimal.put_i64.Goals as goal
 
-pub returns-then-x-lt0 : goal.returns-then-x-lt0
-returns-then-x-lt0 c =
-    wrote_as
-    (text_negative _
-    c.ranges.x
-    c.if-x-lt0.true
-    c.magnitude-m.ensures)
-    (wrote_then
-    c.well_formed.1.0.0
-    c.put-sign.ensures
-    c.clip-k.ensures
-    c.put_u64-digits.ensures
-    c.sum.ensures)
-
-pub returns-else-x-lt0 : goal.returns-else-x-lt0
-returns-else-x-lt0 c =
-    wrote_as
-    (text_positive _ c.ranges.x c.if-x-lt0.false c.magnitude-m.ensures)
-    c.put_u64.ensures
+pub returns : goal.returns
+returns c = wrote_as (c.as_bytes.ensures.value ∙ c.format.ensures.text ∙ rw (to_z-of_z w64 _ c.ranges.x) (int_decimal _ c.ranges.x)) c.put_all.ensures
