@@ -12,3 +12,4 @@ mod Stepping
 mod Writing
 mod Signs
 pub mod Loops
+pub mod Chains

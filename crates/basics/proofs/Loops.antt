@@ -37,7 +37,7 @@ module _ (test : ℕ → Bool) where
   pub all_done : (n i : ℕ) → all_below i test ≡ true → i ≡ n → true ≡ all_below n test
   all_done n i h q = rw q at (sym h)
 
-below_first : (n : ℕ) (test : ℕ → Bool) → all_below (suc n) test ≡ (test 0 && all_below n (λ i. test (suc i)))
+pub below_first : (n : ℕ) (test : ℕ → Bool) → all_below (suc n) test ≡ (test 0 && all_below n (λ i. test (suc i)))
 unfolding all_below
 below_first zero test = sym (and-true (test 0))
 below_first (suc n) test = rw (below_first n test) (and_assoc (test 0) (all_below n (λ i. test (suc i))) (test (suc n)))

@@ -29,13 +29,11 @@ fn in_order(book: &[u8]) -> bool
     ensures { result ≡ laid_from book.now contents_size sections }
 {
     let mut at = CONTENTS;
-    let mut n = 0;
-    while n < SECTIONS {
+    for n in 0..SECTIONS {
         if offset(book, n) != at {
             return false;
         }
         at += SIZES[n] * count(book, n);
-        n += 1;
     }
     at == book.len()
 }
@@ -43,11 +41,7 @@ fn in_order(book: &[u8]) -> bool
 pub fn laid_out(book: &[u8]) -> bool
     ensures { result ≡ laid_out book.now }
 {
-    if book.len() < CONTENTS {
-        false
-    } else {
-        in_order(book)
-    }
+    CONTENTS <= book.len() && in_order(book)
 }
 
 fn count_fits(book: &[u8], n: usize) -> bool
@@ -61,12 +55,5 @@ pub fn counts_fit(book: &[u8]) -> bool
     requires { contents_size ≤ length book.now }
     ensures { result ≡ counts_fit book.now }
 {
-    let mut n = 0;
-    while n < SECTIONS {
-        if !count_fits(book, n) {
-            return false;
-        }
-        n += 1;
-    }
-    true
+    (0..SECTIONS).all(|n| count_fits(book, n))
 }

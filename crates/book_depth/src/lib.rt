@@ -27,16 +27,13 @@ pub fn shallow(book: &[u8]) -> bool
     ensures { result ≡ shallow book.now }
 {
     let mut depths = no_depths();
-    let n = count(book, CONTEXTS);
-    let mut i = 0;
-    while i < n {
+    for i in 0..count(book, CONTEXTS) {
         let parent = field(book, CONTEXTS, i, CONTEXT_PARENT);
         let depth = depths[parent];
         if DEEPEST <= depth {
             return false;
         }
         depths[i + 1] = depth + 1;
-        i += 1;
     }
     true
 }

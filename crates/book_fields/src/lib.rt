@@ -36,14 +36,7 @@ fn entries_below(book: &[u8], limit: usize, start: usize, n: usize) -> bool
     requires { Laid book.now lists × (start + n ≤ size book.now lists) }
     ensures { result ≡ all_below n (entry_below book.now limit start) }
 {
-    let mut j = 0;
-    while j < n {
-        if !entry_below(book, limit, start, j) {
-            return false;
-        }
-        j += 1;
-    }
-    true
+    (0..n).all(|j| entry_below(book, limit, start, j))
 }
 
 // Whether the range in fields i and i + 1 of record k ends within lists and each entry that it reaches is below the limit.

@@ -33,11 +33,7 @@ fn is_marked(scratch: &[u8], t: usize) -> bool
 pub fn clear(scratch: &mut [u8])
     ensures { scratch.new ≡ replicate (length scratch.old) 0 }
 {
-    let mut i = 0;
-    while i < scratch.len() {
-        scratch[i] = 0;
-        i += 1;
-    }
+    scratch.fill(0);
 }
 
 // Marks a term that is below the bound and has no mark yet.
@@ -59,12 +55,10 @@ fn mark_range(book: &[u8], scratch: &mut [u8], bound: usize, start: usize, n: us
     requires { Laid book.now lists × (start + n ≤ size book.now lists) × (bound ≤ room scratch.old) }
     ensures { Marked scratch.old (range_references book.now bound start n) result scratch.new }
 {
-    let mut j = 0;
-    while j < n {
+    for j in 0..n {
         if !mark(scratch, bound, field(book, LISTS, start + j, LISTED)) {
             return false;
         }
-        j += 1;
     }
     true
 }
@@ -74,8 +68,7 @@ fn mark_patterns(book: &[u8], scratch: &mut [u8], bound: usize, start: usize, n:
     requires { AllLaid book.now × Followed book.now × ListsPatterns book.now start n × (bound ≤ room scratch.old) }
     ensures { Marked scratch.old (join_below n (listed_references book.now bound start)) result scratch.new }
 {
-    let mut j = 0;
-    while j < n {
+    for j in 0..n {
         let p = field(book, LISTS, start + j, LISTED);
         if !mark_range(
             book,
@@ -86,7 +79,6 @@ fn mark_patterns(book: &[u8], scratch: &mut [u8], bound: usize, start: usize, n:
         ) {
             return false;
         }
-        j += 1;
     }
     true
 }
@@ -145,13 +137,10 @@ fn mark_terms(book: &[u8], scratch: &mut [u8]) -> bool
     requires { AllLaid book.now × Followed book.now × (size book.now terms ≤ room scratch.old) }
     ensures { Marked scratch.old (join_below (size book.now terms) (term_references book.now)) result scratch.new }
 {
-    let n = count(book, TERMS);
-    let mut t = 0;
-    while t < n {
+    for t in 0..count(book, TERMS) {
         if !mark_term(book, scratch, t) {
             return false;
         }
-        t += 1;
     }
     true
 }
@@ -172,13 +161,10 @@ fn mark_axioms(book: &[u8], scratch: &mut [u8]) -> bool
     ensures { Marked scratch.old (join_below (size book.now axioms) (axiom_references book.now)) result scratch.new }
 {
     let bound = count(book, TERMS);
-    let n = count(book, AXIOMS);
-    let mut i = 0;
-    while i < n {
+    for i in 0..count(book, AXIOMS) {
         if !mark_axiom(book, scratch, bound, i) {
             return false;
         }
-        i += 1;
     }
     true
 }
@@ -188,13 +174,10 @@ fn mark_contexts(book: &[u8], scratch: &mut [u8]) -> bool
     ensures { Marked scratch.old (join_below (size book.now contexts) (context_references book.now)) result scratch.new }
 {
     let bound = count(book, TERMS);
-    let n = count(book, CONTEXTS);
-    let mut i = 0;
-    while i < n {
+    for i in 0..count(book, CONTEXTS) {
         if !mark(scratch, bound, field(book, CONTEXTS, i, CONTEXT_TERM)) {
             return false;
         }
-        i += 1;
     }
     true
 }

@@ -27,15 +27,7 @@ fn section_named(book: &[u8], section: usize) -> bool
     requires { AllLaid book.now × Spelled book.now × NamedFirst book.now section }
     ensures { result ≡ section_named book.now (section_at section) }
 {
-    let n = count(book, section);
-    let mut k = 0;
-    while k < n {
-        if !record_named(book, section, k) {
-            return false;
-        }
-        k += 1;
-    }
-    true
+    (0..count(book, section)).all(|k| record_named(book, section, k))
 }
 
 // Bool and Int are words.
@@ -78,15 +70,7 @@ fn terms_named(book: &[u8]) -> bool
     requires { AllLaid book.now × Spelled book.now }
     ensures { result ≡ all_below (size book.now terms) (term_named book.now) }
 {
-    let n = count(book, TERMS);
-    let mut t = 0;
-    while t < n {
-        if !term_named(book, t) {
-            return false;
-        }
-        t += 1;
-    }
-    true
+    (0..count(book, TERMS)).all(|t| term_named(book, t))
 }
 
 // Used or not, every type, constant, function and literal is looked at.

@@ -42,15 +42,7 @@ fn uses(book: &[u8], t: usize, used: usize) -> bool
     requires { Laid book.now terms × (t < size book.now terms) × (used ≤ 6) }
     ensures { result ≡ uses book.now t used }
 {
-    let n = FIELDS - used;
-    let mut j = 0;
-    while j < n {
-        if !is_zero(book, t, used, j) {
-            return false;
-        }
-        j += 1;
-    }
-    true
+    (0..FIELDS - used).all(|j| is_zero(book, t, used, j))
 }
 
 fn boolean_in_range(book: &[u8], t: usize) -> bool
@@ -149,13 +141,5 @@ pub fn terms_in_range(book: &[u8]) -> bool
     requires { AllLaid book.now }
     ensures { result ≡ terms_in_range book.now }
 {
-    let n = count(book, TERMS);
-    let mut t = 0;
-    while t < n {
-        if !term_in_range(book, t) {
-            return false;
-        }
-        t += 1;
-    }
-    true
+    (0..count(book, TERMS)).all(|t| term_in_range(book, t))
 }

@@ -7,8 +7,4 @@ use Rattle.book_contents.specs.Contents.{laid_from}
 use Rattle.book_contents.proofs.in_order.Given as goal
 
 abbrev pub invariant-loop-n : goal.invariant-loop-n
-invariant-loop-n l =
-    (l.n ≤ 10) × (l.at ≤ contents_size + 28 * 4294967296 * l.n) × (laid_from l.book l.at (drop l.n sections) ≡ laid_from l.book contents_size sections)
-
-abbrev pub decreases-loop-n : goal.decreases-loop-n
-decreases-loop-n l = 10 - l.n
+invariant-loop-n l = (l.at ≤ contents_size + 28 * 4294967296 * l.n) × (laid_from l.book l.at (drop l.n sections) ≡ laid_from l.book contents_size sections)

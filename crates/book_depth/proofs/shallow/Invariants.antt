@@ -7,7 +7,4 @@ use Rattle.book_depth.proofs.Path.{Known}
 use Rattle.book_depth.proofs.shallow.Given as goal
 
 abbrev pub invariant-loop-i : goal.invariant-loop-i
-invariant-loop-i l = (l.i ≤ l.n) × (all_below l.i (is_shallow l.book) ≡ true) × Known l.book l.depths l.i
-
-abbrev pub decreases-loop-i : goal.decreases-loop-i
-decreases-loop-i l = l.n - l.i
+invariant-loop-i l = (all_below l.i (is_shallow l.book) ≡ true) × Known l.book l.depths l.i

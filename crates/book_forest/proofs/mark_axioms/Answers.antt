@@ -5,13 +5,13 @@ use Rattle.std.proofs.lemmas.Bool.{not_from_false, not_from_true}
 use Rattle.book_forest.proofs.mark_axioms.Goals as goal
 
 pub loop-i-init : goal.loop-i-init
-loop-i-init c = (search rules, mark_none _ _)
+loop-i-init c = mark_none _ _
 
 pub returns-then-not-mark_axiom : goal.returns-then-not-mark_axiom
-returns-then-not-mark_axiom c = mark_stop _ _ _ c.loop-i.invariant.1 c.mark_axiom.ensures (not_from_false _ c.if-not-mark_axiom.true) (omega arith)
+returns-then-not-mark_axiom c = mark_stop _ _ _ c.loop-i.invariant c.mark_axiom.ensures (not_from_false _ c.if-not-mark_axiom.true) (omega arith)
 
 pub loop-i-preserved : goal.loop-i-preserved
-loop-i-preserved c = (search rules, mark_more _ _ c.loop-i.invariant.1 c.mark_axiom.ensures (not_from_true _ c.if-not-mark_axiom.false))
+loop-i-preserved c = mark_more _ _ c.loop-i.invariant c.mark_axiom.ensures (not_from_true _ c.if-not-mark_axiom.false)
 
 pub returns : goal.returns
-returns c = mark_done _ _ _ c.loop-i.invariant.1 (omega arith)
+returns c = mark_done _ _ _ c.loop-i.invariant (omega arith)

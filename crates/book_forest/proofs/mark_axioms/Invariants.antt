@@ -6,7 +6,4 @@ use Prim.Native.Nat.{◌≤◌, ◌-◌}
 use Rattle.book_forest.proofs.mark_axioms.Given as goal
 
 abbrev pub invariant-loop-i : goal.invariant-loop-i
-invariant-loop-i l = (l.i ≤ l.n) × Marked l.initial.scratch (join_below l.i (axiom_references l.book)) true l.scratch
-
-abbrev pub decreases-loop-i : goal.decreases-loop-i
-decreases-loop-i l = l.n - l.i
+invariant-loop-i l = Marked l.initial.scratch (join_below l.i (axiom_references l.book)) true l.scratch

@@ -6,7 +6,4 @@ use Prim.Native.Nat.{◌≤◌, ◌-◌}
 use Rattle.book_forest.proofs.mark_range.Given as goal
 
 abbrev pub invariant-loop-j : goal.invariant-loop-j
-invariant-loop-j l = (l.j ≤ l.n) × Marked l.initial.scratch (join_below l.j (entry_reference l.book l.bound l.start)) true l.scratch
-
-abbrev pub decreases-loop-j : goal.decreases-loop-j
-decreases-loop-j l = l.n - l.j
+invariant-loop-j l = Marked l.initial.scratch (join_below l.j (entry_reference l.book l.bound l.start)) true l.scratch

@@ -6,7 +6,4 @@ use Prim.Native.Nat.{◌≤◌, ◌-◌}
 use Rattle.book_forest.proofs.mark_terms.Given as goal
 
 abbrev pub invariant-loop-t : goal.invariant-loop-t
-invariant-loop-t l = (l.t ≤ l.n) × Marked l.initial.scratch (join_below l.t (term_references l.book)) true l.scratch
-
-abbrev pub decreases-loop-t : goal.decreases-loop-t
-decreases-loop-t l = l.n - l.t
+invariant-loop-t l = Marked l.initial.scratch (join_below l.t (term_references l.book)) true l.scratch

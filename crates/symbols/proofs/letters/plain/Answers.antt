@@ -1,11 +1,12 @@
-use borrow.Author.Tests.{eq-eqb, ne_eqb}
-use Rattle.symbols.specs.Symbols.{plain, bar_byte}
+use borrow.Author.Rules.{rules}
+use borrow.Author.Tests.{tests}
+use Rattle.symbols.specs.Symbols.{plain}
 use Rattle.symbols.proofs.letters.plain.Goals as goal
 
-pub returns-then-c-eq124 : goal.returns-then-c-eq124
+pub returns-then-c-ne124 : goal.returns-then-c-ne124
 unfolding plain
-returns-then-c-eq124 c = rw (eq-eqb c.args.c bar_byte c.if-c-eq124.true)
+returns-then-c-ne124 c = search (rules, tests)
 
-pub returns-else-c-eq124 : goal.returns-else-c-eq124
+pub returns-else-c-ne124 : goal.returns-else-c-ne124
 unfolding plain
-returns-else-c-eq124 c = rw (ne_eqb c.args.c bar_byte c.if-c-eq124.false)
+returns-else-c-ne124 c = search (rules, tests)
