@@ -5,3 +5,4 @@ pub mod EachSection
 pub mod Paths
 pub mod Words
 pub mod ExtendsNodes
+pub mod KindNumbers

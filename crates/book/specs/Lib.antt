@@ -6,3 +6,4 @@ pub mod RExpr
 pub mod Program
 pub mod Decode
 pub mod Extends
+pub mod Kinds

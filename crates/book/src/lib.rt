@@ -7,30 +7,35 @@ ghost use Rattle.book.specs.Laid.{section_at, Laid, Holds, Reads};
 use format::{LETTERS, NAME_LENGTH, NAME_START, NAMES, SIZES};
 
 pub mod format;
+mod kind;
+mod stype;
 
-// Why a call is refused. The number of each is in specs/Refusal.antt.
-#[derive(Clone, Copy)]
+pub use kind::{Kind, NoKind};
+pub use stype::SType;
+
+// Why a call is refused, with its number in documents 01 and 02.
+#[derive(Clone, Copy, PartialEq, Eq)]
 pub enum Refusal {
-    ShortScratch,
-    BadContents,
-    CountOverLimit,
-    FieldOutOfRange,
-    NoForest,
-    TooDeep,
-    NotInBook,
-    ReplyIsUnsat,
-    MissingAxiom,
-    BufferTooShort,
-    NoOperator,
-    NoSession,
-    QuestionOpen,
-    NoReplyOwed,
-    NoModelOwed,
-    TooDeepForNarrow,
-    TagInBook,
-    ForeignLine,
-    ChecksDiffer,
-    BadName,
+    ShortScratch = 1,
+    BadContents = 2,
+    CountOverLimit = 3,
+    FieldOutOfRange = 4,
+    NoForest = 5,
+    TooDeep = 6,
+    NotInBook = 7,
+    ReplyIsUnsat = 8,
+    MissingAxiom = 9,
+    BufferTooShort = 10,
+    NoOperator = 11,
+    NoSession = 20,
+    QuestionOpen = 21,
+    NoReplyOwed = 22,
+    NoModelOwed = 23,
+    TooDeepForNarrow = 24,
+    TagInBook = 25,
+    ForeignLine = 26,
+    ChecksDiffer = 27,
+    BadName = 28,
 }
 
 // A number has four bytes, an entry of the table of contents two numbers.
@@ -38,28 +43,12 @@ const WORD: usize = 4;
 
 const ENTRY: usize = 8;
 
-// What a byte counts by its place in a number.
-const SECOND: usize = 0x100;
-
-const THIRD: usize = 0x10000;
-
-const FOURTH: usize = 0x1000000;
-
-fn wide(x: u8) -> usize
-    ensures { (result ≡ x) × (result < 256) }
-{
-    x as usize
-}
-
 // The number that stands at `at`.
 pub fn word(book: &[u8], at: usize) -> usize
     requires { at + 4 ≤ length book.now }
     ensures { Reads (word book.now at) result }
 {
-    wide(book[at])
-        + SECOND * wide(book[at + 1])
-        + THIRD * wide(book[at + 2])
-        + FOURTH * wide(book[at + 3])
+    u32::from_le_bytes([book[at], book[at + 1], book[at + 2], book[at + 3]]) as usize
 }
 
 // Where the section's records begin.

@@ -7,7 +7,7 @@ ghost use Rattle.book.specs.Laid.{section_at, Laid, AllLaid, Holds};
 ghost use Rattle.book_fields.specs.Fields.{type_limit, entry_below, is_range, letter_in_range, name_in_range, type_in_range, constant_in_range, function_in_range, axiom_in_range, pattern_in_range, context_in_range};
 
 use book::format::*;
-use book::{count, field, letter};
+use book::{SType, count, field, letter};
 
 // The letters of names.
 const LOWEST: u8 = 0x20;
@@ -19,9 +19,10 @@ pub fn is_type(book: &[u8], t: usize) -> bool
     requires { Laid book.now types }
     ensures { result ≡ ltb t (type_limit book.now) }
 {
-    match t {
-        BOOL..=INT => true,
-        _ => t - USER_TYPES < count(book, TYPES),
+    match SType::from(t) {
+        SType::Bool => true,
+        SType::Int => true,
+        SType::User(k) => k < count(book, TYPES),
     }
 }
 

@@ -2,29 +2,37 @@
 use Prim.Native.Nat.{ℕ, zero, suc, ◌+◌, ◌<◌, ◌≤◌}
 use native.Mathlib.Omega.{arith}
 use native.Mathlib.Decide.{ℕ_discrete}
-use mathlib.Core.Path.{◌≡◌, refl, sym, ◌∙◌}
+use mathlib.Core.Path.{◌≡◌, refl, sym, ap, ◌∙◌}
 use mathlib.Core.List.{[]}
 use Rattle.book.specs.Book.{Book, terms, lists, size, field}
 use Rattle.book.specs.Decode.{kind_of}
+use Rattle.book.specs.declared.kind.Kind.{Kind}
+use Rattle.book.specs.Kinds.{number_of, meant}
+use Rattle.book.proofs.KindNumbers.{kind_meant}
 use Rattle.book_forest.specs.Forest.{range_references, kind_references, term_references}
 use Rattle.book_forest.specs.Followed.{Followed}
 
 module _ (b : Book) (t : ℕ) where
   -- an application, built-in or not
-  pub application_children : (k : ℕ) → k ≡ field b terms t 0 → 4 ≤ k → k ≤ 5 → range_references b t (field b terms t 2) (field b terms t 3) ≡ term_references b t
+  pub application_children : (4 ≤ field b terms t 0) → field b terms t 0 ≤ 5 → range_references b t (field b terms t 2) (field b terms t 3) ≡ term_references b t
   unfolding term_references kind_references kind_of
-  application_children k e l h = by (ℕ_discrete k 4)
+  application_children l h = by (ℕ_discrete (field b terms t 0) 4)
     where
-      by : Dec (k ≡ 4) → range_references b t (field b terms t 2) (field b terms t 3) ≡ kind_references b (kind_of (field b terms t 0)) t
-      by (yes s) = rw (sym e ∙ s)
-      by (no s) = let f : k ≡ 5 = omega arith in rw (sym e ∙ f)
+      by : Dec (field b terms t 0 ≡ 4) → range_references b t (field b terms t 2) (field b terms t 3) ≡ kind_references b (kind_of (field b terms t 0)) t
+      by (yes s) = rw s
+      by (no s) = let f : field b terms t 0 ≡ 5 = omega arith in rw f
 
-  pub application_ends : Followed b → t < size b terms → (k : ℕ) → k ≡ field b terms t 0 → 4 ≤ k → k ≤ 5 → field b terms t 2 + field b terms t 3 ≤ size b lists
-  application_ends F h k e l u = by (ℕ_discrete k 4)
+  pub application_ends : Followed b → t < size b terms → 4 ≤ field b terms t 0 → field b terms t 0 ≤ 5 → field b terms t 2 + field b terms t 3 ≤ size b lists
+  application_ends F h l u = by (ℕ_discrete (field b terms t 0) 4)
     where
-      by : Dec (k ≡ 4) → field b terms t 2 + field b terms t 3 ≤ size b lists
-      by (yes s) = F.built_in t h (sym e ∙ s)
-      by (no s) = let f : k ≡ 5 = omega arith in F.application t h (sym e ∙ f)
+      by : Dec (field b terms t 0 ≡ 4) → field b terms t 2 + field b terms t 3 ≤ size b lists
+      by (yes s) = F.built_in t h s
+      by (no s) = let f : field b terms t 0 ≡ 5 = omega arith in F.application t h f
+
+  -- by the kind that the code makes of its number
+  pub by_kind : (k : Kind) {n : ℕ} → n ≡ field b terms t 0 → number_of k ≡ n → kind_references b (meant k) t ≡ term_references b t
+  unfolding term_references
+  by_kind k e h = ap (λ x. kind_references b x t) (sym (kind_meant k (h ∙ e)))
 
   -- any other number that is no kind with children
   childless : (k : ℕ) → (k ≡ 4 → ⊥) → (k ≡ 5 → ⊥) → (k ≡ 6 → ⊥) → (k ≡ 7 → ⊥) → (k ≡ 8 → ⊥) → kind_references b (kind_of k) t ≡ []
@@ -43,3 +51,9 @@ module _ (b : Book) (t : ℕ) where
   pub no_children : (k : ℕ) → k ≡ field b terms t 0 → (k ≡ 4 → ⊥) → (k ≡ 5 → ⊥) → (k ≡ 6 → ⊥) → (k ≡ 7 → ⊥) → (k ≡ 8 → ⊥) → term_references b t ≡ []
   unfolding term_references
   no_children k e n4 n5 n6 n7 n8 = rw (← e) (childless k n4 n5 n6 n7 n8)
+
+  pub leaf_children : (k : ℕ) → k ≡ field b terms t 0 → {n : ℕ} → n ≡ k → n < 4 → term_references b t ≡ []
+  leaf_children k e q l = no_children k e (λ f. omega arith) (λ f. omega arith) (λ f. omega arith) (λ f. omega arith) (λ f. omega arith)
+
+  pub kindless : (k : ℕ) → k ≡ field b terms t 0 → 9 ≤ k → term_references b t ≡ []
+  kindless k e l = no_children k e (λ f. omega arith) (λ f. omega arith) (λ f. omega arith) (λ f. omega arith) (λ f. omega arith)

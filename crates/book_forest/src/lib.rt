@@ -11,7 +11,7 @@ ghost use Rattle.book_forest.specs.Marks.{is_marked, set_mark, room, Marked};
 
 use basics::{BITS, has_bit, with_bit};
 use book::format::*;
-use book::{count, field};
+use book::{Kind, count, field};
 
 // A mark is a bit of the scratch. Only the next three functions know that.
 fn set_mark(scratch: &mut [u8], t: usize)
@@ -113,23 +113,37 @@ fn mark_quantifier(book: &[u8], scratch: &mut [u8], t: usize) -> bool
     ) & mark(scratch, t, field(book, TERMS, t, QUANTIFIER_BODY))
 }
 
+// An application, built-in or not.
+fn mark_arguments(book: &[u8], scratch: &mut [u8], t: usize) -> bool
+    requires { AllLaid book.now × Followed book.now × (t < size book.now terms) × (4 ≤ field book.now terms t 0) × (field book.now terms t 0 ≤ 5) × (t ≤ room scratch.old) }
+    ensures { Marked scratch.old (term_references book.now t) result scratch.new }
+{
+    mark_range(
+        book,
+        scratch,
+        t,
+        field(book, TERMS, t, ARGUMENTS),
+        field(book, TERMS, t, ARGUMENTS_COUNT),
+    )
+}
+
 fn mark_term(book: &[u8], scratch: &mut [u8], t: usize) -> bool
     requires { AllLaid book.now × Followed book.now × (t < size book.now terms) × (t ≤ room scratch.old) }
     ensures { Marked scratch.old (term_references book.now t) result scratch.new }
 {
-    let kind = field(book, TERMS, t, KIND);
+    let Ok(kind) = Kind::try_from(field(book, TERMS, t, KIND)) else {
+        return true;
+    };
     match kind {
-        BUILT_IN | APPLICATION => mark_range(
-            book,
-            scratch,
-            t,
-            field(book, TERMS, t, ARGUMENTS),
-            field(book, TERMS, t, ARGUMENTS_COUNT),
-        ),
-        IF_THEN_ELSE => mark_if(book, scratch, t),
-        LET_EXPR => mark_let(book, scratch, t),
-        QUANTIFIER_EXPR => mark_quantifier(book, scratch, t),
-        _ => true,
+        Kind::Boolean => true,
+        Kind::Integer => true,
+        Kind::CustomLiteral => true,
+        Kind::Id => true,
+        Kind::BuiltIn => mark_arguments(book, scratch, t),
+        Kind::Application => mark_arguments(book, scratch, t),
+        Kind::IfThenElse => mark_if(book, scratch, t),
+        Kind::LetExpr => mark_let(book, scratch, t),
+        Kind::QuantifierExpr => mark_quantifier(book, scratch, t),
     }
 }
 

@@ -10,7 +10,7 @@ ghost use Rattle.book_names.specs.Spelled.{Spelled, NamedFirst};
 
 use basics::same;
 use book::format::*;
-use book::{count, field, name};
+use book::{Kind, SType, count, field, name};
 use symbols::{has_bar, is_name};
 
 // The name of a type, constant or function is its first field.
@@ -35,10 +35,11 @@ fn plain_type(book: &[u8], typ: usize) -> bool
     requires { AllLaid book.now × Spelled book.now × (typ < user_types + size book.now types) }
     ensures { result ≡ plain_type (type_of book.now typ) }
 {
-    if typ < USER_TYPES {
-        return true;
+    match SType::from(typ) {
+        SType::Bool => true,
+        SType::Int => true,
+        SType::User(k) => !has_bar(name(book, field(book, TYPES, k, TYPE_NAME))),
     }
-    !has_bar(name(book, field(book, TYPES, typ - USER_TYPES, TYPE_NAME)))
 }
 
 fn literal_named(book: &[u8], t: usize) -> bool
@@ -60,7 +61,7 @@ fn term_named(book: &[u8], t: usize) -> bool
     requires { AllLaid book.now × Spelled book.now × (t < size book.now terms) }
     ensures { result ≡ term_named book.now t }
 {
-    if field(book, TERMS, t, KIND) != CUSTOM_LITERAL {
+    if field(book, TERMS, t, KIND) != Kind::CustomLiteral as usize {
         return true;
     }
     literal_named(book, t)

@@ -7,7 +7,7 @@ ghost use Rattle.book.specs.Laid.{Laid, AllLaid};
 ghost use Rattle.book_terms.specs.Terms.{is_zero, uses, kind_in_range, term_in_range, terms_in_range};
 
 use book::format::*;
-use book::{count, field};
+use book::{Kind, count, field};
 use book_fields::{is_range, is_type};
 
 // The fields behind a term's kind, and how many of them a kind uses.
@@ -122,18 +122,19 @@ fn term_in_range(book: &[u8], t: usize) -> bool
     requires { AllLaid book.now × (t < size book.now terms) }
     ensures { result ≡ term_in_range book.now t }
 {
-    let kind = field(book, TERMS, t, KIND);
+    let Ok(kind) = Kind::try_from(field(book, TERMS, t, KIND)) else {
+        return false;
+    };
     match kind {
-        BOOLEAN => boolean_in_range(book, t),
-        INTEGER => uses(book, t, INTEGER_USES),
-        CUSTOM_LITERAL => literal_in_range(book, t),
-        ID => id_in_range(book, t),
-        BUILT_IN => built_in_in_range(book, t),
-        APPLICATION => application_in_range(book, t),
-        IF_THEN_ELSE => if_then_else_in_range(book, t),
-        LET_EXPR => let_expr_in_range(book, t),
-        QUANTIFIER_EXPR => quantifier_in_range(book, t),
-        _ => false,
+        Kind::Boolean => boolean_in_range(book, t),
+        Kind::Integer => uses(book, t, INTEGER_USES),
+        Kind::CustomLiteral => literal_in_range(book, t),
+        Kind::Id => id_in_range(book, t),
+        Kind::BuiltIn => built_in_in_range(book, t),
+        Kind::Application => application_in_range(book, t),
+        Kind::IfThenElse => if_then_else_in_range(book, t),
+        Kind::LetExpr => let_expr_in_range(book, t),
+        Kind::QuantifierExpr => quantifier_in_range(book, t),
     }
 }
 

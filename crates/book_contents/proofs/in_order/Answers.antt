@@ -22,8 +22,10 @@ pub overflow_add-at : goal.overflow_add-at
 overflow_add-at c = omega (arith, mul-le-mul_right c.count.result (tabled c.loop-n.n (omega arith)).narrow)
 
 pub loop-n-preserved : goal.loop-n-preserved
-loop-n-preserved c = (omega (arith, mul-le-mul_right c.count.result (tabled c.loop-n.n (omega arith)).narrow),
-  rw c.count.ensures.is (order_more c.args.book.now c.loop-n.at c.loop-n.n (omega arith) (sym c.offset.ensures.is ∙ c.if-offset-at.false)) ∙ c.loop-n.invariant.1)
+loop-n-preserved c = (
+  omega (arith, mul-le-mul_right c.count.result (tabled c.loop-n.n (omega arith)).narrow),
+  rw c.count.ensures.is (order_more c.args.book.now c.loop-n.at c.loop-n.n (omega arith) (sym c.offset.ensures.is ∙ c.if-offset-at.false)) ∙ c.loop-n.invariant.1,
+)
 
 pub returns : goal.returns
 returns c = sym (order_done c.args.book.now c.loop-n.at c.loop-n.n (omega arith)) ∙ c.loop-n.invariant.1

@@ -5,7 +5,6 @@ use Rattle.basics.proofs.Loops.{all_none, all_more, all_stop, all_done}
 use Rattle.book.specs.Book.{contexts, size}
 use Rattle.book_depth.specs.Depth.{is_shallow, shallow}
 use Rattle.book_depth.proofs.Path.{root_known, next_known, next_shallow, next_deep}
-use borrow.Author.Rules.{rules}
 use Rattle.book_depth.proofs.shallow.Goals as goal
 
 pub loop-i-init : goal.loop-i-init

@@ -2,7 +2,6 @@ use Rattle.book_forest.specs.Forest.{axiom_references}
 use Rattle.book_forest.specs.Marks.{Marked}
 use Rattle.basics.specs.Lists.{join_below}
 use mathlib.Core.Bool.{true}
-use Prim.Native.Nat.{◌≤◌, ◌-◌}
 use Rattle.book_forest.proofs.mark_axioms.Given as goal
 
 abbrev pub invariant-loop-i : goal.invariant-loop-i

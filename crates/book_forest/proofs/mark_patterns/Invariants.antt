@@ -2,7 +2,6 @@ use Rattle.book_forest.specs.Forest.{listed_references}
 use Rattle.book_forest.specs.Marks.{Marked}
 use Rattle.basics.specs.Lists.{join_below}
 use mathlib.Core.Bool.{true}
-use Prim.Native.Nat.{◌≤◌, ◌-◌}
 use Rattle.book_forest.proofs.mark_patterns.Given as goal
 
 abbrev pub invariant-loop-j : goal.invariant-loop-j

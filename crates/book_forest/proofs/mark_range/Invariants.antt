@@ -2,7 +2,6 @@ use Rattle.book_forest.specs.Marks.{Marked}
 use Rattle.book_forest.specs.Forest.{entry_reference}
 use Rattle.basics.specs.Lists.{join_below}
 use mathlib.Core.Bool.{true}
-use Prim.Native.Nat.{◌≤◌, ◌-◌}
 use Rattle.book_forest.proofs.mark_range.Given as goal
 
 abbrev pub invariant-loop-j : goal.invariant-loop-j

@@ -1,6 +1,5 @@
 use Rattle.book_forest.proofs.Marking.{mark_none, mark_more, mark_stop, mark_done}
 use native.Mathlib.Omega.{arith}
-use borrow.Author.Rules.{rules}
 use Rattle.std.proofs.lemmas.Bool.{not_from_false, not_from_true}
 use Rattle.book_forest.proofs.mark_terms.Goals as goal
 
