@@ -1,7 +1,8 @@
 -- The book test: the first of the refusals 1 to 6 and 28 that holds, each decided for the whole book before the next.
-use Rattle.std.specs.Prelude.{ℕ, Bool, not, ◌&&◌, List, ltb, length}
+use Rattle.std.specs.Prelude.{ℕ, Bool, not, ◌&&◌, List, ltb, length, Result, Ok, Err}
 use Rattle.basics.specs.Outcome.{Outcome, refused, accepted, refuse, ◌>>◌}
 use Rattle.basics.specs.Buffer.{scratch_least, scratch_after}
+use Rattle.book.specs.declared.Refusal.{Refusal}
 use Rattle.book.specs.Refusal.{number}
 use Rattle.book.specs.Book.{Book}
 use Rattle.book_contents.specs.Contents.{laid_out, counts_fit}
@@ -10,8 +11,6 @@ use Rattle.book_terms.specs.Terms.{terms_in_range}
 use Rattle.book_forest.specs.Forest.{is_forest}
 use Rattle.book_depth.specs.Depth.{shallow}
 use Rattle.book_names.specs.Names.{names_good}
-use Rattle.book_test.specs.declared.Tested.{Tested}
-use Rattle.book_test.specs.declared.Tested.TheVariants.{Good, Refused}
 
 unfoldable pub in_range : Book → Bool
 in_range b = fields_in_range b && terms_in_range b
@@ -33,9 +32,9 @@ ready scratch b = do
   book_test b
 
 -- the number and values of each answer
-unfoldable pub tested_value : Tested → Outcome (Unit {0})
-tested_value Good = accepted tt
-tested_value (Refused r) = refused (number r)
+unfoldable pub tested_value : Result (Unit {0}) Refusal → Outcome (Unit {0})
+tested_value (Ok u) = accepted tt
+tested_value (Err r) = refused (number r)
 
 -- THE CALL book test: its answer, and the scratch afterwards
 pub record BookTested : Type 0 where

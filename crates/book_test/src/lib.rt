@@ -12,41 +12,34 @@ use book_names::names_good;
 use book_records::fields_in_range;
 use book_terms::terms_in_range;
 
-// The answer of the book test.
-#[derive(Clone, Copy)]
-pub enum Tested {
-    Good,
-    Refused(Refusal),
-}
-
 // The scratch is all zero afterwards, except under refusal 1, where it isn't touched.
-pub fn book_test(book: &[u8], scratch: &mut [u8]) -> Tested
+pub fn book_test(book: &[u8], scratch: &mut [u8]) -> Result<(), Refusal>
     ensures { (tested_value result ≡ (book_test_call book.now scratch.old).answer) × (scratch.new ≡ (book_test_call book.now scratch.old).scratch) }
 {
     if scratch.len() < SCRATCH_LEAST {
-        return Tested::Refused(Refusal::ShortScratch);
+        return Err(Refusal::ShortScratch);
     }
     clear(scratch);
     if !laid_out(book) {
-        return Tested::Refused(Refusal::BadContents);
+        return Err(Refusal::BadContents);
     }
     if !counts_fit(book) {
-        return Tested::Refused(Refusal::CountOverLimit);
+        return Err(Refusal::CountOverLimit);
     }
     if !fields_in_range(book) {
-        return Tested::Refused(Refusal::FieldOutOfRange);
+        return Err(Refusal::FieldOutOfRange);
     }
     if !terms_in_range(book) {
-        return Tested::Refused(Refusal::FieldOutOfRange);
+        return Err(Refusal::FieldOutOfRange);
     }
     if !is_forest(book, scratch) {
-        return Tested::Refused(Refusal::NoForest);
+        return Err(Refusal::NoForest);
     }
     if !shallow(book) {
-        return Tested::Refused(Refusal::TooDeep);
+        return Err(Refusal::TooDeep);
     }
     if !names_good(book) {
-        return Tested::Refused(Refusal::BadName);
+        return Err(Refusal::BadName);
     }
-    Tested::Good
+    Ok(())
 }
