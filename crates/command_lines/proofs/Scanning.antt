@@ -6,14 +6,13 @@ use native.Mathlib.Numerals.{add-one}
 use mathlib.Core.Path.{◌≡◌, refl, sym, ap, ◌∙◌}
 use mathlib.Core.Bool.{Bool, true, false}
 use lib.Dec.{eqb}
-use lib.ListN.{get_or}
+use lib.ListN.{length, get_or, drop, drop_of_length-le}
+use lib.Seq.{drop-cons}
 use borrow.Author.Tests.{ne_eqb}
-use Rattle.basics.specs.Text.{Text, newline}
+use Rattle.basics.specs.Text.{Text}
 use Rattle.command_lines.specs.declared.parentheses.Scan.{Scan}
 use Rattle.command_lines.specs.declared.parentheses.Scan.TheVariants.{Outside, Between, Shut, Wrong}
-use Rattle.command_lines.specs.Lines.{line_at}
-use Rattle.command_lines.specs.CommandLines.{Mark, bars, opens, closes, forbidden, plain, mark_of, closing, step_outside, scan_byte, scan, is_shut, depth_of}
-use Rattle.command_lines.proofs.Walking.{line_stop, line_more}
+use Rattle.command_lines.specs.CommandLines.{Mark, mark_of, closing, step_outside, scan_byte, scan, is_shut, depth_of}
 
 -- ---- a closing parenthesis
 pub close_none : {n : ℕ} → n ≡ 0 → Wrong ≡ closing n
@@ -93,16 +92,16 @@ byte_depth Scan.Shut c = omega arith
 byte_depth Scan.Wrong c = omega arith
 
 -- ---- the line
-abbrev pub Scanned : (t : Text) (at : ℕ) (s : Scan) (k : ℕ) → Type 0
-Scanned t at s k = scan (Outside 0) (line_at t at) ≡ scan s (line_at t k)
+abbrev pub Scanned : (t : Text) (s : Scan) (k : ℕ) → Type 0
+Scanned t s k = scan (Outside 0) t ≡ scan s (drop k t)
 
-pub scan_more : (t : Text) (at : ℕ) (s : Scan) (k : ℕ) {c : ℕ} {r : Scan} → Scanned t at s k → (get_or t k newline ≡ newline → ⊥) → c ≡ get_or t k newline → r ≡ scan_byte s c → Scanned t at r (k + 1)
+pub scan_more : (t : Text) (s : Scan) (k : ℕ) {r : Scan} → Scanned t s k → k < length t → r ≡ scan_byte s (get_or t k 0) → Scanned t r (k + 1)
 unfolding scan
-scan_more t at s k l h e q = l ∙ rw (line_more t k h, q, e)
+scan_more t s k l h q = l ∙ rw (drop-cons t k 0 h, q, add-one k)
 
-pub scan_done : (t : Text) (at : ℕ) (s : Scan) (k : ℕ) {r : Bool} → Scanned t at s k → get_or t k newline ≡ newline → r ≡ is_shut s → r ≡ is_shut (scan (Outside 0) (line_at t at))
+pub scan_done : (t : Text) (s : Scan) (k : ℕ) {r : Bool} → Scanned t s k → length t ≤ k → r ≡ is_shut s → r ≡ is_shut (scan (Outside 0) t)
 unfolding scan
-scan_done t at s k l e q = q ∙ ap is_shut (sym (l ∙ rw (line_stop t k e)))
+scan_done t s k l h q = q ∙ ap is_shut (sym (l ∙ rw (drop_of_length-le t {i = k} h)))
 
 -- ---- by a value's variant
 pub outside_short : {s : Scan} {n : ℕ} (m : ℕ) → s ≡ Outside n → depth_of s < m → n < m
