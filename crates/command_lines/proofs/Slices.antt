@@ -8,6 +8,7 @@ use Rattle.std.proofs.lemmas.List.{take_all}
 use Rattle.basics.specs.Text.{Text, newline, same}
 use Rattle.basics.specs.Lists.{all}
 use Rattle.basics.proofs.Texts.{same_yes, same_no}
+use Rattle.smt_engines.specs.SmtEngines.{CMD_PUSH, CMD_CHECK_SAT}
 use Rattle.command_lines.specs.Lines.{line_by, line_of}
 
 -- ---- the library's tests
@@ -68,6 +69,14 @@ line_line (c ∷ s) = at (nat_eq c newline) refl (line_line s)
     at false q e = rw (q, e)
 
 -- ---- a line that is looked for
+pub push_line : line_of CMD_PUSH ≡ CMD_PUSH
+unfolding line_of line_by CMD_PUSH
+push_line = refl
+
+pub check_line : line_of CMD_CHECK_SAT ≡ CMD_CHECK_SAT
+unfolding line_of line_by CMD_CHECK_SAT
+check_line = refl
+
 behind : (l s : Text) → line_of l ≡ l → line_of (l ++ s) ≡ l ++ line_of s
 unfolding line_of line_by
 behind [] s h = refl
