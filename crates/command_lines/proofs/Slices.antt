@@ -9,7 +9,7 @@ use Rattle.basics.specs.Text.{Text, newline, same}
 use Rattle.basics.specs.Lists.{all}
 use Rattle.basics.proofs.Texts.{same_yes, same_no}
 use Rattle.smt_engines.specs.SmtEngines.{CMD_PUSH, CMD_CHECK_SAT}
-use Rattle.command_lines.specs.Lines.{line_by, line_of}
+use Rattle.command_lines.specs.Lines.{line_by, line_of, line_at}
 
 -- ---- the library's tests
 pub all_list : (t : ℕ → Bool) (l : List ℕ) → list_all t l ≡ all l t
@@ -67,6 +67,10 @@ line_line (c ∷ s) = at (nat_eq c newline) refl (line_line s)
     at : (x : Bool) → nat_eq c newline ≡ x → line_of (line_of s) ≡ line_of s → line_of (line_by x c (line_of s)) ≡ line_by x c (line_of s)
     at true q e = refl
     at false q e = rw (q, e)
+
+pub line_at_line : (s : Text) (at : ℕ) {line : Text} → line ≡ line_at s at → line_of line ≡ line
+unfolding line_at
+line_at_line s at e = rw e (line_line (drop at s))
 
 -- ---- a line that is looked for
 pub push_line : line_of CMD_PUSH ≡ CMD_PUSH

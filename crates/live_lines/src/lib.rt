@@ -1,6 +1,6 @@
 #![tactic(auto)]
 // The live lines of a script, in place: where each of them starts.
-ghost use Rattle.std.specs.Prelude.{◌≡◌, true, ◌<◌, length};
+ghost use Rattle.std.specs.Prelude.{◌≡◌, true, ◌<◌, length, IfSome};
 ghost use Rattle.command_lines.specs.Lines.{line_at};
 ghost use Rattle.command_lines.specs.CommandLines.{is_command};
 ghost use Rattle.live_lines.specs.LiveLines.{script_most, places, push_place, Heard};
@@ -23,7 +23,8 @@ pub struct Lines<'a> {
 
 // Which of the lines is the last push.
 pub fn last_push(lines: Lines) -> Option<usize>
-    ensures { result ≡ push_place lines.entry.text.now lines.entry.starts.now (length lines.entry.starts.now) }
+    ensures place { result ≡ push_place lines.entry.text.now lines.entry.starts.now (length lines.entry.starts.now) }
+    ensures within { IfSome result (λ k. k < length lines.entry.starts.now) }
 {
     for k in (0..lines.starts.len()).rev() {
         if is_line(lines.text, usize::from(lines.starts[k]), PUSH) {

@@ -5,7 +5,7 @@ pub returns-in-Push : goal.returns-in-Push
 returns-in-Push c = heard_join _ _ _ c.line_kind.ensures c.line_at.ensures c.requires.0 c.in-Push.is c.push.ensures.items
 
 pub returns-in-Pop : goal.returns-in-Pop
-returns-in-Pop c = heard_pop _ _ _ c.line_kind.ensures c.line_at.ensures c.in-Pop.is c.as_slice.ensures.value c.last_push.ensures c.unwrap_or-kept.ensures c.truncate.ensures.items
+returns-in-Pop c = heard_pop _ _ _ c.line_kind.ensures c.line_at.ensures c.in-Pop.is c.as_slice.ensures.value c.last_push.ensures.place c.unwrap_or-kept.ensures c.truncate.ensures.items
 
 pub returns-in-CheckSat : goal.returns-in-CheckSat
 returns-in-CheckSat c = heard_rest _ _ _ c.line_kind.ensures c.line_at.ensures c.requires.0 c.in-CheckSat.is
