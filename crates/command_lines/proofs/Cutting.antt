@@ -116,3 +116,8 @@ end_most s at h = omega (arith, line_most (drop at s), length-drop at s)
 pub end_behind : (s : Text) (at : ℕ) → at ≤ line_end s at
 unfolding line_end
 end_behind s at = omega arith
+
+-- by the line itself
+pub end_is : (s : Text) (at : ℕ) {line : Text} → line ≡ line_at s at → at + length line ≡ line_end s at
+unfolding line_end
+end_is s at e = ap (λ (l : Text). at + length l) e

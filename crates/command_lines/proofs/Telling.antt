@@ -8,24 +8,7 @@ use Rattle.smt_engines.specs.SmtEngines.{CMD_PUSH, CMD_POP, CMD_CHECK_SAT, CMD_G
 use Rattle.command_lines.specs.declared.kinds.LineKind.{LineKind}
 use Rattle.command_lines.specs.declared.kinds.LineKind.TheVariants.{Push, Pop, CheckSat, GetModel, Joins, Foreign}
 use Rattle.command_lines.specs.declared.parentheses.Scan.TheVariants.{Outside}
-use Rattle.command_lines.specs.Lines.{line_by, line_of, line_at}
 use Rattle.command_lines.specs.CommandLines.{is_printing, scan, is_shut, starts_with, opens_context, is_context, line_kind}
-
-pub push_line : line_at CMD_PUSH 0 ≡ CMD_PUSH
-unfolding line_at line_of line_by CMD_PUSH
-push_line = refl
-
-pub pop_line : line_at CMD_POP 0 ≡ CMD_POP
-unfolding line_at line_of line_by CMD_POP
-pop_line = refl
-
-pub check_line : line_at CMD_CHECK_SAT 0 ≡ CMD_CHECK_SAT
-unfolding line_at line_of line_by CMD_CHECK_SAT
-check_line = refl
-
-pub model_line : line_at CMD_GET_MODEL 0 ≡ CMD_GET_MODEL
-unfolding line_at line_of line_by CMD_GET_MODEL
-model_line = refl
 
 module _ (l : Text) where
   pub opens_assert : {r : Bool} → r ≡ starts_with (ascii "(assert ") l → r ≡ true → true ≡ opens_context l

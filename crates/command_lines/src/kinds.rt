@@ -5,8 +5,16 @@ ghost use Rattle.smt_engines.specs.SmtEngines.{CMD_PUSH, CMD_POP, CMD_CHECK_SAT,
 ghost use Rattle.command_lines.specs.Lines.{line_at};
 ghost use Rattle.command_lines.specs.CommandLines.{opens_context, is_context, line_kind};
 
-use super::lines::{all_printing, same_line, starts_with};
+use super::lines::{all_printing, starts_with};
 use super::parentheses::all_shut;
+
+pub const PUSH: &[u8] = b"(push 1)";
+
+const POP: &[u8] = b"(pop 1)";
+
+pub const CHECK_SAT: &[u8] = b"(check-sat)";
+
+const GET_MODEL: &[u8] = b"(get-model)";
 
 #[derive(Clone, Copy)]
 pub enum LineKind {
@@ -18,73 +26,36 @@ pub enum LineKind {
     Foreign,
 }
 
-pub fn is_push(text: &[u8], at: usize) -> bool
-    ensures { result ≡ same (line_at text.now at) CMD_PUSH }
-{
-    same_line(text, at, b"(push 1)", 0)
-}
-
-fn is_pop(text: &[u8], at: usize) -> bool
-    ensures { result ≡ same (line_at text.now at) CMD_POP }
-{
-    same_line(text, at, b"(pop 1)", 0)
-}
-
-pub fn is_check_sat(text: &[u8], at: usize) -> bool
-    ensures { result ≡ same (line_at text.now at) CMD_CHECK_SAT }
-{
-    same_line(text, at, b"(check-sat)", 0)
-}
-
-fn is_get_model(text: &[u8], at: usize) -> bool
-    ensures { result ≡ same (line_at text.now at) CMD_GET_MODEL }
-{
-    same_line(text, at, b"(get-model)", 0)
-}
-
 // The line asserts or declares, by its start.
-fn opens_context(text: &[u8], at: usize) -> bool
-    ensures { result ≡ opens_context (line_at text.now at) }
+fn opens_context(line: &[u8]) -> bool
+    ensures { result ≡ opens_context line.now }
 {
-    if starts_with(text, at, b"(assert ") {
-        return true;
-    }
-    if starts_with(text, at, b"(declare-fun ") {
-        return true;
-    }
-    starts_with(text, at, b"(declare-sort ")
+    starts_with(line, b"(assert ")
+        || starts_with(line, b"(declare-fun ")
+        || starts_with(line, b"(declare-sort ")
 }
 
-fn is_context(text: &[u8], at: usize) -> bool
-    ensures { result ≡ is_context (line_at text.now at) }
+fn is_context(line: &[u8]) -> bool
+    ensures { result ≡ is_context line.now }
 {
-    if !opens_context(text, at) {
-        return false;
-    }
-    if !all_printing(text, at) {
-        return false;
-    }
-    all_shut(text, at)
+    opens_context(line) && all_printing(line) && all_shut(line)
 }
 
-// The kind of the line at a place.
-pub fn line_kind(text: &[u8], at: usize) -> LineKind
-    ensures { result ≡ line_kind (line_at text.now at) }
+// The kind of a line.
+pub fn line_kind(line: &[u8]) -> LineKind
+    ensures { result ≡ line_kind line.now }
 {
-    if is_push(text, at) {
-        return LineKind::Push;
+    if line == PUSH {
+        LineKind::Push
+    } else if line == POP {
+        LineKind::Pop
+    } else if line == CHECK_SAT {
+        LineKind::CheckSat
+    } else if line == GET_MODEL {
+        LineKind::GetModel
+    } else if is_context(line) {
+        LineKind::Joins
+    } else {
+        LineKind::Foreign
     }
-    if is_pop(text, at) {
-        return LineKind::Pop;
-    }
-    if is_check_sat(text, at) {
-        return LineKind::CheckSat;
-    }
-    if is_get_model(text, at) {
-        return LineKind::GetModel;
-    }
-    if is_context(text, at) {
-        return LineKind::Joins;
-    }
-    LineKind::Foreign
 }

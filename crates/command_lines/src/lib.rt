@@ -4,5 +4,5 @@ mod kinds;
 mod lines;
 mod parentheses;
 
-pub use kinds::{LineKind, is_check_sat, is_push, line_kind};
-pub use lines::{line_end, same_line};
+pub use kinds::{CHECK_SAT, LineKind, PUSH, line_kind};
+pub use lines::{is_line, line_at};

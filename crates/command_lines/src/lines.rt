@@ -1,62 +1,53 @@
 // Lines at places of texts.
-ghost use Rattle.std.specs.Prelude.{◌≡◌, get_or};
-ghost use Rattle.basics.specs.Text.{newline, same};
+ghost use Rattle.std.specs.Prelude.{◌≡◌, ◌==◌, drop};
+ghost use Rattle.std.specs.List.{position};
+ghost use Rattle.basics.specs.Text.{same};
 ghost use Rattle.basics.specs.Lists.{all};
-ghost use Rattle.command_lines.specs.Lines.{line_at, line_end};
+ghost use Rattle.command_lines.specs.Lines.{line_of, line_at};
 ghost use Rattle.command_lines.specs.CommandLines.{is_printing, starts_with};
 
-// The byte at a place; behind the text as if a line ended there.
-pub fn byte(text: &[u8], at: usize) -> u8
-    ensures { result ≡ get_or text.now at newline }
+// What stands at a place and behind it.
+fn rest(text: &[u8], at: usize) -> &[u8]
+    ensures { result.now ≡ drop at text.now }
 {
-    if at < text.len() { text[at] } else { b'\n' }
+    text.get(at..).unwrap_or(&[])
 }
 
-// The place of the next line end, or of the text's end.
-pub fn line_end(text: &[u8], at: usize) -> usize
-    ensures { result ≡ line_end text.now at }
+// Where the first line ends, if it does.
+fn first_end(text: &[u8]) -> Option<usize>
+    ensures { result ≡ position (λ c. c == 10) text.now }
 {
-    let mut i = at;
-    while byte(text, i) != b'\n' {
-        i += 1;
-    }
-    i
+    text.iter().position(|c| *c == b'\n')
 }
 
-// The line at i of one text is the line at j of another.
-pub fn same_line(a: &[u8], i: usize, b: &[u8], j: usize) -> bool
-    ensures { result ≡ same (line_at a.now i) (line_at b.now j) }
+// The line at a place: up to the next line end, or to the text's end.
+pub fn line_at(text: &[u8], at: usize) -> &[u8]
+    ensures { result.now ≡ line_at text.now at }
 {
-    let mut k = i;
-    let mut m = j;
-    while byte(a, k) != b'\n' {
-        if byte(a, k) != byte(b, m) {
-            return false;
-        }
-        k += 1;
-        m += 1;
+    let rest = rest(text, at);
+    match first_end(rest) {
+        Some(end) => &rest[..end],
+        None => rest,
     }
-    byte(b, m) == b'\n'
 }
 
-// The line at a place starts with these bytes.
-pub fn starts_with(text: &[u8], at: usize, head: &[u8]) -> bool
-    ensures { result ≡ starts_with head.now (line_at text.now at) }
+// The line at a place is this one. It is read as far as the two are the same.
+pub fn is_line(text: &[u8], at: usize, line: &[u8]) -> bool
+    requires { line_of line.now ≡ line.now }
+    ensures { result ≡ same (line_at text.now at) line.now }
 {
-    let mut i = 0;
-    let mut k = at;
-    while i < head.len() {
-        let c = byte(text, k);
-        if c == b'\n' {
-            return false;
-        }
-        if c != head[i] {
-            return false;
-        }
-        i += 1;
-        k += 1;
+    match rest(text, at).strip_prefix(line) {
+        Some([]) => true,
+        Some([c, ..]) => *c == b'\n',
+        None => false,
     }
-    true
+}
+
+// A line starts with these bytes.
+pub fn starts_with(line: &[u8], head: &[u8]) -> bool
+    ensures { result ≡ starts_with head.now line.now }
+{
+    line.starts_with(head)
 }
 
 // The bytes that may stand in a line: from a blank to `~`.
@@ -68,23 +59,12 @@ const LAST_PRINTING: u8 = 0x7E;
 fn is_printing(c: u8) -> bool
     ensures { result ≡ is_printing c }
 {
-    if c < FIRST_PRINTING {
-        false
-    } else {
-        c <= LAST_PRINTING
-    }
+    FIRST_PRINTING <= c && c <= LAST_PRINTING
 }
 
-// Each byte of the line at a place is one.
-pub fn all_printing(text: &[u8], at: usize) -> bool
-    ensures { result ≡ all (line_at text.now at) is_printing }
+// Each byte of a line is one.
+pub fn all_printing(line: &[u8]) -> bool
+    ensures { result ≡ all line.now is_printing }
 {
-    let mut i = at;
-    while byte(text, i) != b'\n' {
-        if !is_printing(byte(text, i)) {
-            return false;
-        }
-        i += 1;
-    }
-    true
+    line.iter().all(|c| is_printing(*c))
 }

@@ -1,59 +1,58 @@
 -- Two stacks compared, from the last level down.
-use Prim.Native.Nat.{ℕ, ◌+◌, ◌≤◌, ◌<◌}
+use Rattle.std.specs.Prelude.{Option, Some, None, is_some, unwrap_or, if◌then◌else◌}
+use Prim.Native.Nat.{ℕ, zero, suc, ◌+◌, ◌≤◌}
 use native.Mathlib.Omega.{arith}
 use native.Mathlib.Numerals.{add-one}
-use mathlib.Core.Path.{◌≡◌, sym, ap, ◌∙◌}
+use mathlib.Core.Path.{◌≡◌, refl, sym, ap, ◌∙◌}
 use mathlib.Core.Bool.{Bool, true, false, true≢false, false≢true}
 use mathlib.Core.List.{List}
-use lib.ListN.{length, get_or}
-use Rattle.basics.specs.Text.{Text, same}
-use Rattle.smt_engines.specs.SmtEngines.{CMD_PUSH}
+use lib.ListN.{length, length-take, get_or, take, drop}
+use lib.Seq.{take-length}
+use Rattle.std.proofs.lemmas.List.{get_or-take}
+use Rattle.basics.specs.Text.{Text}
 use Rattle.smt_engines.specs.Reader.{Stack, first, over}
-use Rattle.command_lines.specs.Lines.{line_at}
-use Rattle.live_lines.specs.LiveLines.{push_at, last_push}
+use Rattle.live_lines.specs.LiveLines.{lines_at, push_at, last_push, push_place}
+use Rattle.live_lines.proofs.Popping.{last-place}
 use Rattle.level_lines.specs.AsOften.{as_often, same_levels}
 use Rattle.level_lines.specs.LevelLines.{lines_in, stack_of, has_push}
 use Rattle.level_lines.proofs.Stacks.{View, flat, tall, view}
 
-module _ (s : Text) (starts : List ℕ) (n : ℕ) (h : n ≤ length starts) where
-  pub push_found : {k a : ℕ} {r : Bool} → k ≡ last_push s starts n → k < n → a ≡ get_or starts k 0 → r ≡ same (line_at s a) CMD_PUSH → r ≡ has_push s starts n
-  push_found {k} {a} {r} e l q t = by (view s starts n h)
+module _ (s : Text) (starts : List ℕ) where
+  has-place : (n : ℕ) → has_push s starts n ≡ is_some (push_place s starts n)
+  unfolding has_push push_place
+  has-place zero = refl
+  has-place (suc k) = at (push_at s starts k) (has-place k)
     where
-      here : r ≡ push_at s starts (last_push s starts n)
-      here = t ∙ ap (λ (i : ℕ). same (line_at s i) CMD_PUSH) (q ∙ ap (λ (j : ℕ). get_or starts j 0) e)
+      at : (x : Bool) → has_push s starts k ≡ is_some (push_place s starts k) → (if x then true else has_push s starts k) ≡ is_some (if x then Some k else push_place s starts k)
+      at true e = refl
+      at false e = e
 
-      by : View s starts n → r ≡ has_push s starts n
-      by (flat p st g) = here ∙ g (omega (arith, e, l)) ∙ sym p
-      by (tall p st m g) = here ∙ g ∙ sym p
-
-  pub push_none : {k : ℕ} → k ≡ last_push s starts n → n ≤ k → false ≡ has_push s starts n
-  push_none {k} e l = by (view s starts n h)
-    where
-      by : View s starts n → false ≡ has_push s starts n
-      by (flat p st g) = sym p
-      by (tall p st m g) = absurd (omega (arith, e, m, l))
+  -- fewer starts
+  stack_fewer : (n m : ℕ) → m ≤ n → stack_of s (take n starts) m ≡ stack_of s starts m
+  unfolding stack_of
+  stack_fewer n zero h = refl
+  stack_fewer n (suc j) h = let e : get_or (take n starts) j 0 ≡ get_or starts j 0 = get_or-take n starts j 0 (omega arith) in rw (e, stack_fewer n j (omega arith))
 
   -- a stack of one level, and one of more
-  pub stack_flat : {r : Bool} → r ≡ has_push s starts n → r ≡ false → stack_of s starts n ≡ first (lines_in s starts 0 n)
-  stack_flat {r} e t = by (view s starts n h)
+  pub one_level : {r : Option ℕ} → r ≡ push_place s starts (length starts) → r ≡ None → stack_of s starts (length starts) ≡ first (lines_at s starts)
+  unfolding lines_in
+  one_level e t = by (view s starts (length starts) (omega arith))
     where
-      by : View s starts n → stack_of s starts n ≡ first (lines_in s starts 0 n)
-      by (flat p st g) = st
-      by (tall p st m g) = absurd (false≢true (sym t ∙ e ∙ p))
+      by : View s starts (length starts) → stack_of s starts (length starts) ≡ first (lines_at s starts)
+      by (flat p st g) = st ∙ ap (λ (l : List ℕ). first (lines_at s l)) (take-length starts)
+      by (tall p st m g) = absurd (false≢true (ap is_some (sym t ∙ e) ∙ sym (has-place (length starts)) ∙ p))
 
-  pub stack_tall : {r : Bool} {k : ℕ} → r ≡ has_push s starts n → r ≡ true → k ≡ last_push s starts n → stack_of s starts n ≡ over (lines_in s starts (k + 1) n) (stack_of s starts k)
-  stack_tall {r} {k} e t q = by (view s starts n h)
+  pub more_levels : {r : Option ℕ} (k : ℕ) {below level : List ℕ} → r ≡ push_place s starts (length starts) → r ≡ Some k → below ≡ take k starts → level ≡ drop (k + 1) starts
+      → stack_of s starts (length starts) ≡ over (lines_at s level) (stack_of s below (length below))
+  unfolding lines_in
+  more_levels k {below} {level} e t u v = by (view s starts (length starts) (omega arith))
     where
-      by : View s starts n → stack_of s starts n ≡ over (lines_in s starts (k + 1) n) (stack_of s starts k)
-      by (flat p st g) = absurd (true≢false (sym t ∙ e ∙ p))
-      by (tall p st m g) = rw (q, add-one (last_push s starts n)) st
-
-  pub tall_below : {r : Bool} {k : ℕ} → r ≡ has_push s starts n → r ≡ true → k ≡ last_push s starts n → k < n
-  tall_below {r} {k} e t q = by (view s starts n h)
-    where
-      by : View s starts n → k < n
-      by (flat p st g) = absurd (true≢false (sym t ∙ e ∙ p))
-      by (tall p st m g) = omega (arith, q, m)
+      by : View s starts (length starts) → stack_of s starts (length starts) ≡ over (lines_at s level) (stack_of s below (length below))
+      by (flat p st g) = absurd (true≢false (ap is_some (sym t ∙ e) ∙ sym (has-place (length starts)) ∙ p))
+      by (tall p st m g) =
+          let q : last_push s starts (length starts) ≡ k = last-place s starts (length starts) ∙ ap (λ (o : Option ℕ). unwrap_or o 0) (sym e ∙ t) in
+          let n : length (take k starts) ≡ k = omega (arith, length-take k starts, q, m) in
+          rw (u, v, n, stack_fewer k k (omega arith)) (st ∙ rw (q, add-one k, take-length starts))
 
 -- ---- level after level
 abbrev pub Level : (st su sv sw : Stack) → Type 0

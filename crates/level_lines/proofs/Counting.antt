@@ -1,74 +1,47 @@
--- Lines that are counted, one after the other.
-use Rattle.std.specs.Prelude.{if◌then◌else◌}
-use Prim.Native.Nat.{ℕ, ◌+◌, ◌-◌, ◌≤◌, ◌<◌}
+-- Lines that are counted.
+use Rattle.std.specs.Prelude.{cond, if◌then◌else◌}
+use Rattle.std.specs.List.{filter, list_all}
+use Prim.Native.Nat.{ℕ, ◌+◌}
 use native.Mathlib.Omega.{arith}
-use mathlib.Core.Path.{◌≡◌, sym, ◌∙◌}
-use mathlib.Core.Bool.{Bool, true, false, ◌&&◌}
-use mathlib.Core.List.{List}
+use mathlib.Core.Path.{◌≡◌, refl, sym, ◌∙◌}
+use mathlib.Core.Bool.{Bool, true, false}
+use mathlib.Core.List.{List, [], ◌∷◌}
 use lib.Dec.{eqb}
-use lib.ListN.{length, get_or}
+use lib.ListN.{length, length-map}
 use borrow.Author.Tests.{eq-eqb, ne_eqb}
 use Rattle.basics.specs.Text.{Text, same}
 use Rattle.basics.specs.Lists.{all}
+use Rattle.basics.proofs.Texts.{same_sym}
 use Rattle.command_lines.specs.Lines.{line_at}
+use Rattle.live_lines.specs.LiveLines.{lines_at}
 use Rattle.level_lines.specs.AsOften.{times_in, even_in, as_often}
-use Rattle.level_lines.specs.LevelLines.{lines_in}
-use Rattle.level_lines.proofs.Parts.{part_cons, part_end}
 
-pub one_yes : {r x : Bool} → r ≡ x → r ≡ true → ◌≡◌ {A = ℕ} 1 (if x then 1 else 0)
-one_yes e t = rw (sym e ∙ t)
+-- as often as the test passes
+pub times_filter : (line s : Text) (starts : List ℕ) → length (filter (λ at. same (line_at s at) line) starts) ≡ times_in line (lines_at s starts)
+unfolding times_in lines_at
+times_filter line s [] = refl
+times_filter line s (k ∷ starts) = rw (same_sym (line_at s k) line) (at (same line (line_at s k)) _ (times_filter line s starts))
+  where
+    at : (x : Bool) (f : List ℕ) {n : ℕ} → length f ≡ n → length (cond x (k ∷ f) f) ≡ (if x then 1 else 0) + n
+    at true f e = omega (arith, e)
+    at false f e = omega (arith, e)
 
-pub one_no : {r x : Bool} → r ≡ x → r ≡ false → ◌≡◌ {A = ℕ} 0 (if x then 1 else 0)
-one_no e t = rw (sym e ∙ t)
+pub all_lines : (t : Text → Bool) (s : Text) (starts : List ℕ) → list_all (λ at. t (line_at s at)) starts ≡ all (lines_at s starts) t
+unfolding all lines_at
+all_lines t s [] = refl
+all_lines t s (k ∷ starts) = rw (all_lines t s starts)
 
-pub one_most : (x : Bool) {r : ℕ} → r ≡ (if x then 1 else 0) → r ≤ 1
-one_most true e = omega (arith, e)
-one_most false e = omega (arith, e)
-
--- ---- how often
-module _ (x s : Text) (starts : List ℕ) (f t : ℕ) where
-  abbrev pub Counted : (n i : ℕ) → Type 0
-  Counted n i = times_in x (lines_in s starts f t) ≡ n + times_in x (lines_in s starts i t)
-
-  pub counted_none : Counted 0 f
-  counted_none = omega arith
-
-  pub counted_more : (n i : ℕ) {a r : ℕ} → Counted n i → i < t → t ≤ length starts → a ≡ get_or starts i 0 → r ≡ (if same x (line_at s a) then 1 else 0) → Counted (n + r) (i + 1)
-  unfolding times_in
-  counted_more n i {a} {r} c h l e q =
-      let step : times_in x (lines_in s starts i t) ≡ r + times_in x (lines_in s starts (i + 1) t) = rw (part_cons s starts i t h l, ← e, ← q) in
-      omega (arith, c, step)
-
-  pub counted_all : (n i : ℕ) → Counted n i → t ≤ i → n ≡ times_in x (lines_in s starts f t)
-  unfolding times_in
-  counted_all n i c h = let e : times_in x (lines_in s starts i t) ≡ 0 = rw (part_end s starts i t h) in omega (arith, c, e)
-
--- ---- each as often
-module _ (s : Text) (starts : List ℕ) (t : ℕ) (l m : List Text) where
-  abbrev pub Even : (f i : ℕ) → Type 0
-  Even f i = all (lines_in s starts f t) (even_in l m) ≡ all (lines_in s starts i t) (even_in l m)
-
-  module _ (f i : ℕ) {a p q : ℕ} (c : Even f i) (h : i < t) (k : t ≤ length starts) (e : a ≡ get_or starts i 0) (u : p ≡ times_in (line_at s a) l) (v : q ≡ times_in (line_at s a) m) where
-    step : all (lines_in s starts f t) (even_in l m) ≡ (eqb p q && all (lines_in s starts (i + 1) t) (even_in l m))
-    unfolding all even_in
-    step = c ∙ rw (part_cons s starts i t h k, ← e, ← u, ← v)
-
-    pub even_more : p ≡ q → Even f (i + 1)
-    even_more z = step ∙ rw (eq-eqb p q z)
-
-    pub even_stop : (p ≡ q → ⊥) → false ≡ all (lines_in s starts f t) (even_in l m)
-    even_stop z = sym (step ∙ rw (ne_eqb p q z))
-
-  pub even_all : (f i : ℕ) → Even f i → t ≤ i → true ≡ all (lines_in s starts f t) (even_in l m)
-  unfolding all
-  even_all f i c h = sym (c ∙ rw (part_end s starts i t h))
+pub even_by : (l m : List Text) {x line : Text} {p q : ℕ} → line ≡ x → p ≡ times_in line l → q ≡ times_in line m → eqb p q ≡ even_in l m x
+unfolding even_in
+even_by l m e a b = rw (a, b, e)
 
 -- ---- as many
-module _ (l m : List Text) {u v : ℕ} (a : length l ≡ u) (b : length m ≡ v) where
-  pub often_not : (u ≡ v → ⊥) → false ≡ as_often l m
-  unfolding as_often
-  often_not h = rw (ne_eqb (length l) (length m) (λ e. h (sym a ∙ e ∙ b)))
+module _ (a b : Text) (xs ys : List ℕ) where
+  pub often_even : length xs ≡ length ys → all (lines_at a xs) (even_in (lines_at a xs) (lines_at b ys)) ≡ as_often (lines_at a xs) (lines_at b ys)
+  unfolding as_often lines_at
+  often_even h = rw (eq-eqb (length (lines_at a xs)) (length (lines_at b ys)) (length-map xs (line_at a) ∙ h ∙ sym (length-map ys (line_at b))))
 
-  pub often_by : u ≡ v → {r : Bool} → r ≡ all l (even_in l m) → r ≡ as_often l m
-  unfolding as_often
-  often_by h q = rw (eq-eqb (length l) (length m) (a ∙ h ∙ sym b)) q
+  pub often_uneven : (length xs ≡ length ys → ⊥) → eqb (length xs) (length ys) ≡ as_often (lines_at a xs) (lines_at b ys)
+  unfolding as_often lines_at
+  often_uneven h =
+      rw (ne_eqb (length xs) (length ys) h, ne_eqb (length (lines_at a xs)) (length (lines_at b ys)) (λ e. h (sym (length-map xs (line_at a)) ∙ e ∙ length-map ys (line_at b))))

@@ -1,48 +1,21 @@
 -- Lines that are the same in the same order.
-use Prim.Native.Nat.{ℕ, ◌+◌, ◌≤◌, ◌<◌}
+use Rattle.std.specs.List.{list_all, zip}
+use Prim.Native.Nat.{ℕ}
 use native.Mathlib.Omega.{arith}
-use mathlib.Core.Path.{◌≡◌, refl, sym, ap₂, ◌∙◌}
-use mathlib.Core.Bool.{Bool, true, false, ◌&&◌, false≢true}
+use mathlib.Core.Path.{◌≡◌, refl, sym, ap, ap₂, ◌∙◌}
+use mathlib.Core.Bool.{Bool, true, false, false≢true}
 use mathlib.Core.List.{List, [], ◌∷◌}
 use lib.Dec.{eqb}
-use lib.ListN.{length, get_or}
-use borrow.Author.Tests.{eqb-true, eqb-false}
+use lib.ListN.{length, length-map}
+use borrow.Author.Tests.{ne_eqb}
 use Rattle.basics.specs.Text.{Text, same}
 use Rattle.basics.proofs.Bool.{and_both}
 use Rattle.basics.proofs.Texts.{same_eq}
 use Rattle.command_lines.specs.Lines.{line_at}
+use Rattle.live_lines.specs.LiveLines.{lines_at}
 use Rattle.level_lines.proofs.Bags.{bag_same}
 use Rattle.level_lines.specs.AsOften.{as_often}
-use Rattle.level_lines.specs.LevelLines.{lines_in, all_same}
-use Rattle.level_lines.proofs.Parts.{part_cons, part_end}
-
-module _ (a : Text) (starts : List ℕ) (t : ℕ) (b : Text) (others : List ℕ) (w : ℕ) where
-  abbrev pub Alike : (f g i j : ℕ) → Type 0
-  Alike f g i j = all_same (lines_in a starts f t) (lines_in b others g w) ≡ all_same (lines_in a starts i t) (lines_in b others j w)
-
-  module _ (f g i j : ℕ) (c : Alike f g i j) where
-    pub alike_short : i < t → t ≤ length starts → j ≡ w → false ≡ all_same (lines_in a starts f t) (lines_in b others g w)
-    unfolding all_same
-    alike_short h l e = sym (c ∙ rw (part_cons a starts i t h l, part_end b others j w (omega arith)))
-
-    pub alike_done : t ≤ i → t ≤ length starts → j ≤ w → w ≤ length others → eqb j w ≡ all_same (lines_in a starts f t) (lines_in b others g w)
-    unfolding all_same
-    alike_done h l k v = sym (c ∙ rw (part_end a starts i t h) (at (eqb j w) refl))
-      where
-        at : (x : Bool) → eqb j w ≡ x → all_same [] (lines_in b others j w) ≡ x
-        at true e = rw (part_end b others j w (omega (arith, eqb-true j w e)))
-        at false e = rw (part_cons b others j w (omega (arith, eqb-false j w e)) v)
-
-    module _ (h : i < t) (l : t ≤ length starts) (k : j < w) (v : w ≤ length others) {x y : ℕ} {r : Bool} (e : x ≡ get_or starts i 0) (q : y ≡ get_or others j 0) (z : r ≡ same (line_at a x) (line_at b y)) where
-      both : all_same (lines_in a starts f t) (lines_in b others g w) ≡ (r && all_same (lines_in a starts (i + 1) t) (lines_in b others (j + 1) w))
-      unfolding all_same
-      both = c ∙ rw (part_cons a starts i t h l, part_cons b others j w k v, ← e, ← q, ← z)
-
-      pub alike_more : r ≡ true → Alike f g (i + 1) (j + 1)
-      alike_more u = both ∙ rw u
-
-      pub alike_stop : r ≡ false → false ≡ all_same (lines_in a starts f t) (lines_in b others g w)
-      alike_stop u = sym (both ∙ rw u)
+use Rattle.level_lines.specs.LevelLines.{all_same}
 
 -- ---- in the same order, each is as often
 all_same_eq : (l m : List Text) → all_same l m ≡ true → l ≡ m
@@ -56,3 +29,20 @@ all_same_eq (x ∷ l) (y ∷ m) e =
 
 pub often_ordered : (l m : List Text) {r : Bool} → r ≡ all_same l m → r ≡ true → true ≡ as_often l m
 often_ordered l m e t = rw (all_same_eq l m (sym e ∙ t)) (sym (bag_same m m (λ x. refl)))
+
+-- ---- line by line
+module _ (a b : Text) where
+  pub all_zip : (xs ys : List ℕ) → length xs ≡ length ys → list_all (λ p. same (line_at a p.0) (line_at b p.1)) (zip xs ys) ≡ all_same (lines_at a xs) (lines_at b ys)
+  unfolding all_same lines_at
+  all_zip [] [] h = refl
+  all_zip [] (y ∷ ys) h = absurd (omega (arith, h))
+  all_zip (x ∷ xs) [] h = absurd (omega (arith, h))
+  all_zip (x ∷ xs) (y ∷ ys) h = rw (all_zip xs ys (omega (arith, h)))
+
+  pub other_length : (xs ys : List ℕ) → (length xs ≡ length ys → ⊥) → eqb (length xs) (length ys) ≡ all_same (lines_at a xs) (lines_at b ys)
+  unfolding lines_at
+  other_length xs ys h = rw (ne_eqb (length xs) (length ys) h) (at (all_same (lines_at a xs) (lines_at b ys)) refl)
+    where
+      at : (t : Bool) → all_same (lines_at a xs) (lines_at b ys) ≡ t → false ≡ t
+      at false e = refl
+      at true e = absurd (h (sym (length-map xs (line_at a)) ∙ ap length (all_same_eq _ _ e) ∙ length-map ys (line_at b)))

@@ -1,5 +1,5 @@
 -- The levels of live lines that are named by their starts.
-use Rattle.std.specs.Prelude.{ℕ, zero, suc, ◌≤◌, Bool, true, false, ◌&&◌, List, [], ◌∷◌, length, get_or, if◌then◌else◌}
+use Rattle.std.specs.Prelude.{ℕ, zero, suc, Bool, true, false, ◌&&◌, List, [], ◌∷◌, get_or, if◌then◌else◌}
 use Rattle.std.proofs.Math.Seq.{slice}
 use Rattle.basics.specs.Text.{Text, same}
 use Rattle.smt_engines.specs.Reader.{Stack, first, over, join}
@@ -30,8 +30,3 @@ all_same [] [] = true
 all_same [] (y ∷ ys) = false
 all_same (x ∷ xs) [] = false
 all_same (x ∷ xs) (y ∷ ys) = same x y && all_same xs ys
-
--- a part of the starts
-pub record Part (starts : List ℕ) (from to : ℕ) : Type 0 where
-  pub ordered : from ≤ to
-  pub inside : to ≤ length starts

@@ -1,6 +1,6 @@
 -- Back to the last push, and over it.
-use Rattle.std.specs.Prelude.{if◌then◌else◌}
-use Prim.Native.Nat.{ℕ, zero, suc, ◌+◌, ◌-◌, ◌≤◌}
+use Rattle.std.specs.Prelude.{Some, None, unwrap_or, if◌then◌else◌}
+use Prim.Native.Nat.{ℕ, zero, suc, ◌-◌, ◌<◌, ◌≤◌}
 use native.Mathlib.Omega.{arith}
 use mathlib.Core.Path.{◌≡◌, refl, sym, ap, ◌∙◌}
 use mathlib.Core.Bool.{Bool, true, false}
@@ -16,7 +16,7 @@ use Rattle.command_lines.specs.declared.kinds.LineKind.TheVariants.{Pop}
 use Rattle.command_lines.specs.Lines.{line_at, line_end}
 use Rattle.command_lines.specs.CommandLines.{line_kind, heard_as}
 use Rattle.command_lines.proofs.Reading.{heard-as}
-use Rattle.live_lines.specs.LiveLines.{lines_at, is_live, Lives, last_push}
+use Rattle.live_lines.specs.LiveLines.{lines_at, is_live, push_at, Lives, last_push, push_place}
 use Rattle.live_lines.proofs.Living.{live_is, lost≢live, hear_snoc, all_snoc, lines_snoc, Told, push, joined, told}
 
 dropped_join : (st : Stack) (ls : List Text) → dropped (join st ls) ≡ dropped st
@@ -81,15 +81,30 @@ module _ (s : Text) (starts : List ℕ) where
         few = omega (arith, l.few, last_below n);
       }
 
-  -- ---- the loop that looks for it
-  pub back_here : (k : ℕ) {m a : ℕ} {r : Bool} → m ≡ suc k → a ≡ get_or starts k 0 → r ≡ same (line_at s a) CMD_PUSH → r ≡ true → last_push s starts m ≡ k
-  unfolding last_push
-  back_here k e z q t = rw (e, ← z, sym q ∙ t)
+-- ---- which is the last
+module _ (s : Text) (starts : List ℕ) where
+  pub last-place : (n : ℕ) → last_push s starts n ≡ unwrap_or (push_place s starts n) 0
+  unfolding last_push push_place
+  last-place zero = refl
+  last-place (suc k) = at (push_at s starts k) (last-place k)
+    where
+      at : (x : Bool) → last_push s starts k ≡ unwrap_or (push_place s starts k) 0
+          → (if x then k else last_push s starts k) ≡ unwrap_or (if x then Some k else push_place s starts k) 0
+      at true e = refl
+      at false e = e
 
-  pub back_more : (k : ℕ) {m a : ℕ} {r : Bool} → m ≡ suc k → a ≡ get_or starts k 0 → r ≡ same (line_at s a) CMD_PUSH → r ≡ false → last_push s starts m ≡ last_push s starts k
-  unfolding last_push
-  back_more k e z q t = rw (e, ← z, sym q ∙ t)
+  -- the line before the first n
+  module _ {n a : ℕ} {r : Bool} (h : 0 < n) (e : a ≡ get_or starts (n - 1) 0) (q : r ≡ same (line_at s a) CMD_PUSH) where
+    one_less : push_place s starts n ≡ (if r then Some (n - 1) else push_place s starts (n - 1))
+    unfolding push_place
+    one_less = let z : n ≡ suc (n - 1) = omega arith in ap (push_place s starts) z ∙ rw (q, e)
 
-  pub back_none : {k : ℕ} → k ≡ 0 → last_push s starts k ≡ 0
-  unfolding last_push
-  back_none e = rw e
+    pub place_here : r ≡ true → Some (n - 1) ≡ push_place s starts n
+    place_here t = sym (one_less ∙ rw t)
+
+    pub place_more : r ≡ false → push_place s starts n ≡ push_place s starts (n - 1)
+    place_more t = one_less ∙ rw t
+
+  pub place_none : {n : ℕ} → n ≤ 0 → push_place s starts n ≡ None
+  unfolding push_place
+  place_none {n} h = let z : n ≡ 0 = omega arith in ap (push_place s starts) z

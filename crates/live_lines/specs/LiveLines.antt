@@ -1,5 +1,5 @@
 -- The live lines of a script, in place: where each of them starts, pushes and joined lines in order.
-use Rattle.std.specs.Prelude.{ℕ, zero, suc, ◌*◌, ◌≤◌, ◌≡◌, Bool, true, false, List, [], map, length, get_or, take, if◌then◌else◌}
+use Rattle.std.specs.Prelude.{ℕ, zero, suc, ◌*◌, ◌≤◌, ◌≡◌, Bool, true, false, Option, Some, None, List, [], map, length, get_or, take, if◌then◌else◌}
 use Rattle.basics.specs.Text.{Text, same}
 use Rattle.basics.specs.Lists.{all}
 use Rattle.smt_engines.specs.SmtEngines.{CMD_PUSH}
@@ -46,6 +46,11 @@ push_at s starts k = same (line_at s (get_or starts k 0)) CMD_PUSH
 unfoldable pub last_push : Text → List ℕ → ℕ → ℕ
 last_push s starts zero = zero
 last_push s starts (suc k) = if push_at s starts k then k else last_push s starts k
+
+-- which of the first n lines is the last push
+unfoldable pub push_place : Text → List ℕ → ℕ → Option ℕ
+push_place s starts zero = None
+push_place s starts (suc k) = if push_at s starts k then Some k else push_place s starts k
 
 -- the line at a place is heard: the stack that the starts leave is the reader's
 pub record Heard (s : Text) (at : ℕ) (starts later : List ℕ) (n m : ℕ) : Type 0 where

@@ -1,11 +1,12 @@
 #![tactic(auto)]
-// The live lines of a script, in place: an array of line starts with a count.
-ghost use Rattle.std.specs.Prelude.{◌≡◌, true, ◌+◌, ◌<◌, ◌≤◌, length, get_or, set};
+// The live lines of a script, in place: where each of them starts.
+ghost use Rattle.std.specs.Prelude.{◌≡◌, true, ◌<◌, length, IfSome};
 ghost use Rattle.command_lines.specs.Lines.{line_at};
 ghost use Rattle.command_lines.specs.CommandLines.{is_command};
-ghost use Rattle.live_lines.specs.LiveLines.{script_most, places, last_push, Heard};
+ghost use Rattle.live_lines.specs.LiveLines.{script_most, places, push_place, Heard};
 
-use command_lines::{LineKind, is_push, line_kind};
+use arrayvec::ArrayVec;
+use command_lines::{LineKind, PUSH, is_line, line_at, line_kind};
 
 // The longest script.
 pub const SCRIPT_MOST: usize = 65536;
@@ -13,56 +14,41 @@ pub const SCRIPT_MOST: usize = 65536;
 // As many live lines as a script can have, each of nine bytes or more with its end, and one.
 pub const PLACES: usize = 7282;
 
-// No line lives yet. Written in place, the zeros would stand one by one in every proof.
-pub fn no_starts() -> [u16; PLACES]
-    ensures { length result ≡ places }
-{
-    [0; PLACES]
+// Lines of a text, by their places.
+#[derive(Clone, Copy)]
+pub struct Lines<'a> {
+    pub text: &'a [u8],
+    pub starts: &'a [u16],
 }
 
-// Where live line k starts.
-pub fn start_of(starts: &[u16], k: usize) -> usize
-    requires { k < length starts.now }
-    ensures { result ≡ get_or starts.now k 0 }
+// Which of the lines is the last push.
+pub fn last_push(lines: Lines) -> Option<usize>
+    ensures place { result ≡ push_place lines.entry.text.now lines.entry.starts.now (length lines.entry.starts.now) }
+    ensures within { IfSome result (λ k. k < length lines.entry.starts.now) }
 {
-    starts[k] as usize
-}
-
-// One more live line, behind the first n: a push, or one that joins.
-pub fn join_line(starts: &mut [u16], n: usize, at: usize) -> usize
-    requires { (n < length starts.old) × (at < script_most) }
-    ensures { (result ≡ n + 1) × (starts.new ≡ set starts.old n at) }
-{
-    starts[n] = at as u16;
-    n + 1
-}
-
-// Back to the last push, and over it.
-pub fn pop_lines(script: &[u8], starts: &[u16], n: usize) -> usize
-    requires { n ≤ length starts.now }
-    ensures { result ≡ last_push script.now starts.now n }
-{
-    let mut k = n;
-    while 0 < k {
-        k -= 1;
-        if is_push(script, start_of(starts, k)) {
-            return k;
+    for k in (0..lines.starts.len()).rev() {
+        if is_line(lines.text, usize::from(lines.starts[k]), PUSH) {
+            return Some(k);
         }
     }
-    0
+    None
 }
 
-// The command at a place is heard: the count of live lines behind it.
-pub fn hear_line(script: &[u8], at: usize, starts: &mut [u16], n: usize) -> usize
-    requires { (is_command (line_at script.now at) ≡ true) × (n < length starts.old) × (at < script_most) }
-    ensures { Heard script.now at starts.old starts.new n result }
+// The command at a place is heard: a push or a line that joins is one more, and a pop leads back to the last push, and over it.
+pub fn hear_line(script: &[u8], at: usize, starts: &mut ArrayVec<u16, PLACES>)
+    requires { (is_command (line_at script.now at) ≡ true) × (length starts.old.items < places) × (at < script_most) }
+    ensures { Heard script.now at starts.old.items starts.new.items (length starts.old.items) (length starts.new.items) }
 {
-    match line_kind(script, at) {
-        LineKind::Push => join_line(starts, n, at),
-        LineKind::Pop => pop_lines(script, starts, n),
-        LineKind::CheckSat => n,
-        LineKind::GetModel => n,
-        LineKind::Joins => join_line(starts, n, at),
-        LineKind::Foreign => n,
+    match line_kind(line_at(script, at)) {
+        LineKind::Push | LineKind::Joins => starts.push(at as u16),
+        LineKind::Pop => {
+            let lines = Lines {
+                text: script,
+                starts: starts.as_slice(),
+            };
+            let kept = last_push(lines).unwrap_or(0);
+            starts.truncate(kept);
+        }
+        LineKind::CheckSat | LineKind::GetModel | LineKind::Foreign => {}
     }
 }

@@ -8,18 +8,15 @@ use book::word;
 // A number has four bytes.
 const WORD: usize = 4;
 
-// What stands for a number that is cut short: one more than 32 bits hold.
+// What stands for a number that is cut short: one more than 32 bits hold. It is no Option, since the comparison that finds a number
+// outside a book finds it too, and behind that comparison no caller would have anything to unwrap.
 pub const CUT: usize = 0x100000000;
 
 // One that is cut short counts.
 pub fn number_count(list: &[u8]) -> usize
     ensures { result ≡ length (numbers list.now) }
 {
-    let whole = list.len() / WORD;
-    if list.len() % WORD == 0 {
-        return whole;
-    }
-    whole + 1
+    list.len().div_ceil(WORD)
 }
 
 // Number i.
@@ -28,7 +25,8 @@ pub fn number_at(list: &[u8], i: usize) -> usize
     ensures { result ≡ get_or (numbers list.now) i 0 }
 {
     if i < list.len() / WORD {
-        return word(list, WORD * i);
+        word(list, WORD * i)
+    } else {
+        CUT
     }
-    CUT
 }

@@ -1,6 +1,6 @@
 #![tactic(auto)]
 // A list of questions that is handed over as bytes: how many they are, the node and the goal of each, and whether the book can be asked them.
-ghost use Rattle.std.specs.Prelude.{◌≡◌, true, ◌<◌, length};
+ghost use Rattle.std.specs.Prelude.{◌≡◌, true, ◌<◌, ◌&&◌, leb, ltb, length};
 ghost use Rattle.basics.specs.Lists.{all};
 ghost use Rattle.book_test.specs.Promise.{Promise};
 ghost use Rattle.number_lists.specs.Numbers.{numbers};
@@ -19,28 +19,38 @@ const QUESTION: usize = 2;
 pub fn question_count(list: &[u8]) -> usize
     ensures { result ≡ length (questions_of (numbers list.now)) }
 {
-    let n = number_count(list);
-    n / QUESTION + n % QUESTION
+    number_count(list).div_ceil(QUESTION)
 }
 
-// The node of question i.
-pub fn node_of(list: &[u8], i: usize) -> usize
-    requires { i < length (questions_of (numbers list.now)) }
-    ensures { result ≡ (question_at (questions_of (numbers list.now)) i).node }
-{
-    number_at(list, QUESTION * i)
+// Question i: a node, and a goal that is asked there.
+#[derive(Clone, Copy)]
+pub struct Question {
+    pub node: usize,
+    pub goal: usize,
 }
 
-// The goal of question i.
-pub fn goal_of(list: &[u8], i: usize) -> usize
+pub fn question_at(list: &[u8], i: usize) -> Question
     requires { i < length (questions_of (numbers list.now)) }
-    ensures { result ≡ (question_at (questions_of (numbers list.now)) i).goal }
+    ensures node { result.node ≡ (question_at (questions_of (numbers list.now)) i).node }
+    ensures goal { result.goal ≡ (question_at (questions_of (numbers list.now)) i).goal }
 {
-    let k = QUESTION * i + 1;
-    if k < number_count(list) {
-        return number_at(list, k);
-    }
-    CUT
+    let at = QUESTION * i;
+    let node = number_at(list, at);
+    let goal = if at + 1 < number_count(list) {
+        number_at(list, at + 1)
+    } else {
+        CUT
+    };
+    Question { node, goal }
+}
+
+// The node and the goal of question i are among so many.
+fn is_among(list: &[u8], i: usize, nodes: usize, terms: usize) -> bool
+    requires { i < length (questions_of (numbers list.now)) }
+    ensures { result ≡ (leb (question_at (questions_of (numbers list.now)) i).node nodes && ltb (question_at (questions_of (numbers list.now)) i).goal terms) }
+{
+    let asked = question_at(list, i);
+    asked.node <= nodes && asked.goal < terms
 }
 
 // Each question's node and goal are in the book.
@@ -50,18 +60,7 @@ pub fn all_inside(book: &[u8], list: &[u8]) -> bool
 {
     let nodes = count(book, CONTEXTS);
     let terms = count(book, TERMS);
-    let length = question_count(list);
-    let mut i = 0;
-    while i < length {
-        if nodes < node_of(list, i) {
-            return false;
-        }
-        if terms <= goal_of(list, i) {
-            return false;
-        }
-        i += 1;
-    }
-    true
+    (0..question_count(list)).all(|i| is_among(list, i, nodes, terms))
 }
 
 // No question meets an axiom without a term. One session is moved through the list: as long as none does, its levels are those of a fresh
@@ -70,20 +69,16 @@ pub fn all_complete(book: &[u8], list: &[u8]) -> bool
     requires { Promise book.now × (all (questions_of (numbers list.now)) (is_inside book.now) ≡ true) }
     ensures { result ≡ all (questions_of (numbers list.now)) (is_complete book.now) }
 {
-    let length = question_count(list);
     let mut levels = blank();
     let mut at = ROOT;
-    let mut i = 0;
-    while i < length {
-        let node = node_of(list, i);
-        let goal = goal_of(list, i);
+    for i in 0..question_count(list) {
+        let asked = question_at(list, i);
         let mut nowhere = [0; 0];
-        let done = question(book, at, node, goal, &mut levels, &mut nowhere);
+        let done = question(book, at, asked.node, asked.goal, &mut levels, &mut nowhere);
         if done.missing {
             return false;
         }
-        at = node;
-        i += 1;
+        at = asked.node;
     }
     true
 }

@@ -1,3 +1,2 @@
-mod Turning
 pub mod Reading
 pub mod Steps

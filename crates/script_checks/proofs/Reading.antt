@@ -1,12 +1,12 @@
 -- A script that is read up to a place: the rest decides, with the stack and the count that are left.
-use Prim.Native.Nat.{ℕ, zero, suc, ◌+◌, ◌-◌, ◌≤◌, ◌<◌}
+use Prim.Native.Nat.{ℕ, zero, suc, ◌+◌, ◌≤◌, ◌<◌}
 use native.Mathlib.Omega.{arith}
 use native.Mathlib.Numerals.{add-one}
 use mathlib.Core.Path.{◌≡◌, refl, sym, ap, ◌∙◌}
 use mathlib.Core.Bool.{Bool, true, false, not, ◌||◌, or-true}
 use mathlib.Core.List.{List, [], ◌∷◌}
 use lib.ListN.{length, drop, length-append, drop_of_length-le}
-use Rattle.basics.specs.Text.{Text, same}
+use Rattle.basics.specs.Text.{Text}
 use Rattle.basics.specs.Lists.{all}
 use Rattle.smt_engines.specs.Reader.{cut, Stack, first, over, height, Reader, live, lost, join, dropped, hear_kind, hear, hear_all, read}
 use Rattle.command_lines.specs.declared.kinds.LineKind.{LineKind}
@@ -15,20 +15,20 @@ use Rattle.command_lines.specs.Lines.{line_at, line_end}
 use Rattle.command_lines.specs.CommandLines.{is_command, ended, line_kind, heard_as, is_ours}
 use Rattle.command_lines.proofs.Cutting.{cut_at, cut_behind, hear_at, end_short, ended_at}
 use Rattle.command_lines.proofs.Reading.{heard-as, is-ours, is_check, check_by}
-use Rattle.script_checks.specs.declared.Checks.TheVariants as answers
-use Rattle.script_checks.specs.declared.Turn.{Turn}
-use Rattle.script_checks.specs.declared.Turn.TheVariants.{On, Stop}
+use Rattle.std.specs.Prelude.{Option, Some, None}
+use Rattle.std.proofs.lemmas.Option.{same_Some, none-some}
+use Rattle.script_checks.specs.declared.Met.{Met}
 use Rattle.script_checks.specs.ScriptChecks.{is_lost, noted, checks_from, checks, is_foreign, foreign_from, answered, check_count}
 use Rattle.script_checks.specs.Turns.{lower, turned}
 
-pub record Upto (s : Text) (at depth n : ℕ) : Type 0 where
+pub record Upto (s : Text) (at : ℕ) (met : Met) : Type 0 where
   stack : Stack
-  tall : height stack ≡ suc depth
+  tall : height stack ≡ suc met.depth
   foreign : is_foreign s ≡ foreign_from s at stack
-  count : length (checks s) ≡ n + length (checks_from (live stack) (cut (drop at s)))
-  pub few : (n ≤ at) × (depth ≤ at)
+  count : length (checks s) ≡ met.checks + length (checks_from (live stack) (cut (drop at s)))
+  pub few : (met.checks ≤ at) × (met.depth ≤ at)
 
-pub upto_none : (s : Text) → Upto s 0 0 0
+pub upto_none : (s : Text) → Upto s 0 (record { depth = 0; checks = 0 })
 unfolding is_foreign foreign_from read checks height
 upto_none s = record { stack = first []; tall = refl; foreign = refl; count = omega arith; few = (omega arith, omega arith) }
 
@@ -47,23 +47,23 @@ unfolding height
 over_height l st = refl
 
 -- ---- a pop
-record Under (st : Stack) (depth n d m : ℕ) : Type 0 where
+record Under (st : Stack) (depth n : ℕ) (met : Met) : Type 0 where
   below : Stack
   drops : dropped st ≡ live below
-  left : height below ≡ suc d
-  same : n ≡ m
-  less : d ≤ depth
+  left : height below ≡ suc met.depth
+  same : n ≡ met.checks
+  less : met.depth ≤ depth
 
-under : (st : Stack) (depth n : ℕ) {d m : ℕ} → height st ≡ suc depth → lower depth n ≡ On d m → Under st depth n d m
+under : (st : Stack) (depth n : ℕ) {met : Met} → height st ≡ suc depth → lower depth n ≡ Some met → Under st depth n met
 unfolding height dropped lower
-under st zero n t z = let f : ◌≡◌ {A = ℕ} 0 1 = cc in absurd (omega arith)
+under st zero n {met} t z = absurd (none-some met z)
 under (first l) (suc depth) n t z = absurd (omega (arith, t))
-under (over l st) (suc depth) n {d} {m} t z =
-    let i : depth ≡ d = cc in
-    let j : n ≡ m = cc in
-    record { below = st; drops = refl; left = omega (arith, t, i); same = j; less = omega (arith, i) }
+under (over l st) (suc depth) n {met} t z =
+    let e = same_Some _ met z in
+    let i : depth ≡ met.depth = ap (λ (m : Met). m.depth) e in
+    record { below = st; drops = refl; left = omega (arith, t, i); same = ap (λ (m : Met). m.checks) e; less = omega (arith, i) }
 
-sunk : (st : Stack) (depth n : ℕ) → height st ≡ suc depth → lower depth n ≡ Stop → dropped st ≡ lost
+sunk : (st : Stack) (depth n : ℕ) → height st ≡ suc depth → lower depth n ≡ None → dropped st ≡ lost
 unfolding height dropped lower
 sunk (first l) depth n t z = refl
 sunk (over l st) zero n t z = absurd (by st (omega (arith, t)))
@@ -71,7 +71,7 @@ sunk (over l st) zero n t z = absurd (by st (omega (arith, t)))
     by : (st : Stack) → height st ≡ 0 → ⊥
     by (first l) e = omega (arith, e)
     by (over l st) e = omega (arith, e)
-sunk (over l st) (suc depth) n t z = let f : ◌≡◌ {A = ℕ} 0 1 = cc in absurd (omega arith)
+sunk (over l st) (suc depth) n t z = absurd (none-some _ (sym z))
 
 module _ (s : Text) (at : ℕ) (h : at < length s) where
   -- the last line has no end
@@ -125,11 +125,11 @@ module _ (s : Text) (at : ℕ) (h : at < length s) where
     ours k e = is-ours (line_at s at) ∙ ap is_ours e
 
     -- one line on
-    module _ {depth n : ℕ} (u : Upto s at depth n) where
+    module _ {now : Met} (u : Upto s at now) where
       on : (k : LineKind) → line_kind (line_at s at) ≡ k → is_ours k ≡ true → (su : Stack) → hear_kind (heard_as k) (line_at s at) u.stack ≡ live su
-          → (d m : ℕ) → height su ≡ suc d → m ≡ n + length (noted (is_check k) (live u.stack)) → m ≤ suc at → d ≤ suc at → Upto s (suc (line_end s at)) d m
+          → (met : Met) → height su ≡ suc met.depth → met.checks ≡ now.checks + length (noted (is_check k) (live u.stack)) → met.checks ≤ suc at → met.depth ≤ suc at → Upto s (suc (line_end s at)) met
       unfolding line_end foreign_from
-      on k e o su q d m t c few deep =
+      on k e o su q met t c few deep =
           let r = heard u.stack k e ∙ q in
           let step : length (checks_from (live u.stack) (cut (drop at s))) ≡ length (noted (is_check k) (live u.stack)) + length (checks_from (live su) (cut (drop (suc (line_end s at)) s))) = rw (ap is_check e) at (count_line u.stack (live su) r) in
           record {
@@ -141,60 +141,60 @@ module _ (s : Text) (at : ℕ) (h : at < length s) where
           }
 
       -- by the line's kind
-      pub go_on : {d m : ℕ} {k : LineKind} {r : Turn} → k ≡ line_kind (line_at s at) → r ≡ turned k depth n → r ≡ On d m → Upto s (suc (line_end s at)) d m
+      pub go_on : {met : Met} {k : LineKind} {r : Option Met} → k ≡ line_kind (line_at s at) → r ≡ turned k now → r ≡ Some met → Upto s (suc (line_end s at)) met
       unfolding turned heard_as is_ours hear_kind is_check noted
-      go_on {d} {m} {k} {r} e t o = by k (sym e) (sym t ∙ o)
+      go_on {met} {k} {r} e t o = by k (sym e) (sym t ∙ o)
         where
-          by : (k : LineKind) → line_kind (line_at s at) ≡ k → turned k depth n ≡ On d m → Upto s (suc (line_end s at)) d m
+          by : (k : LineKind) → line_kind (line_at s at) ≡ k → turned k now ≡ Some met → Upto s (suc (line_end s at)) met
           by LineKind.Push q z =
-              let i : suc depth ≡ d = cc in
-              let j : n ≡ m = cc in
-              on Push q refl (over [] u.stack) refl d m (omega (arith, over_height [] u.stack, u.tall, i)) (omega (arith, j)) (omega (arith, j, u.few.0)) (omega (arith, i, u.few.1))
+              let x = same_Some _ met z in
+              let i : suc now.depth ≡ met.depth = ap (λ (m : Met). m.depth) x in
+              let j : now.checks ≡ met.checks = ap (λ (m : Met). m.checks) x in
+              on Push q refl (over [] u.stack) refl met (omega (arith, over_height [] u.stack, u.tall, i)) (omega (arith, j)) (omega (arith, j, u.few.0)) (omega (arith, i, u.few.1))
           by LineKind.Pop q z =
-              let w = under u.stack depth n u.tall z in
-              on Pop q refl w.below w.drops d m w.left (omega (arith, w.same)) (omega (arith, w.same, u.few.0)) (omega (arith, w.less, u.few.1))
+              let w = under u.stack now.depth now.checks u.tall z in
+              on Pop q refl w.below w.drops met w.left (omega (arith, w.same)) (omega (arith, w.same, u.few.0)) (omega (arith, w.less, u.few.1))
           by LineKind.CheckSat q z =
-              let i : depth ≡ d = cc in
-              let j : suc n ≡ m = cc in
-              on CheckSat q refl u.stack refl d m (omega (arith, u.tall, i)) (omega (arith, j)) (omega (arith, j, u.few.0)) (omega (arith, i, u.few.1))
+              let x = same_Some _ met z in
+              let i : now.depth ≡ met.depth = ap (λ (m : Met). m.depth) x in
+              let j : suc now.checks ≡ met.checks = ap (λ (m : Met). m.checks) x in
+              on CheckSat q refl u.stack refl met (omega (arith, u.tall, i)) (omega (arith, j)) (omega (arith, j, u.few.0)) (omega (arith, i, u.few.1))
           by LineKind.GetModel q z =
-              let i : depth ≡ d = cc in
-              let j : n ≡ m = cc in
-              on GetModel q refl u.stack refl d m (omega (arith, u.tall, i)) (omega (arith, j)) (omega (arith, j, u.few.0)) (omega (arith, i, u.few.1))
+              let i : now ≡ met = same_Some now met z in
+              on GetModel q refl u.stack refl met (u.tall ∙ ap (λ (m : Met). suc m.depth) i) (sym (omega (arith, ap (λ (m : Met). m.checks) i))) (omega (arith, ap (λ (m : Met). m.checks) i, u.few.0)) (omega (arith, ap (λ (m : Met). m.depth) i, u.few.1))
           by LineKind.Joins q z =
-              let i : depth ≡ d = cc in
-              let j : n ≡ m = cc in
-              on Joins q refl (join u.stack (line_at s at ∷ [])) refl d m (omega (arith, join_height u.stack (line_at s at ∷ []), u.tall, i)) (omega (arith, j)) (omega (arith, j, u.few.0)) (omega (arith, i, u.few.1))
-          by LineKind.Foreign q z = let f : ◌≡◌ {A = ℕ} 0 1 = cc in absurd (omega arith)
+              let i : now ≡ met = same_Some now met z in
+              on Joins q refl (join u.stack (line_at s at ∷ [])) refl met (join_height u.stack (line_at s at ∷ []) ∙ u.tall ∙ ap (λ (m : Met). suc m.depth) i) (sym (omega (arith, ap (λ (m : Met). m.checks) i))) (omega (arith, ap (λ (m : Met). m.checks) i, u.few.0)) (omega (arith, ap (λ (m : Met). m.depth) i, u.few.1))
+          by LineKind.Foreign q z = absurd (none-some met z)
 
-      pub go_stop : {k : LineKind} {r : Turn} → k ≡ line_kind (line_at s at) → r ≡ turned k depth n → r ≡ Stop → is_foreign s ≡ true
+      pub go_stop : {k : LineKind} {r : Option Met} → k ≡ line_kind (line_at s at) → r ≡ turned k now → r ≡ None → is_foreign s ≡ true
       unfolding turned heard_as is_ours hear_kind
       go_stop {k} e t o = u.foreign ∙ by k (sym e) (sym t ∙ o)
         where
-          by : (k : LineKind) → line_kind (line_at s at) ≡ k → turned k depth n ≡ Stop → foreign_from s at u.stack ≡ true
-          by LineKind.Push q z = let f : ◌≡◌ {A = ℕ} 0 1 = cc in absurd (omega arith)
-          by LineKind.Pop q z = lost_line u.stack (ours Pop q) (heard u.stack Pop q ∙ sunk u.stack depth n u.tall z)
-          by LineKind.CheckSat q z = let f : ◌≡◌ {A = ℕ} 0 1 = cc in absurd (omega arith)
-          by LineKind.GetModel q z = let f : ◌≡◌ {A = ℕ} 0 1 = cc in absurd (omega arith)
-          by LineKind.Joins q z = let f : ◌≡◌ {A = ℕ} 0 1 = cc in absurd (omega arith)
+          by : (k : LineKind) → line_kind (line_at s at) ≡ k → turned k now ≡ None → foreign_from s at u.stack ≡ true
+          by LineKind.Push q z = absurd (none-some _ (sym z))
+          by LineKind.Pop q z = lost_line u.stack (ours Pop q) (heard u.stack Pop q ∙ sunk u.stack now.depth now.checks u.tall z)
+          by LineKind.CheckSat q z = absurd (none-some _ (sym z))
+          by LineKind.GetModel q z = absurd (none-some _ (sym z))
+          by LineKind.Joins q z = absurd (none-some _ (sym z))
           by LineKind.Foreign q z = foreign_line u.stack (ours Foreign q)
 
 -- ---- what is answered
-pub is-foreign : (s : Text) → is_foreign s ≡ true → answers.Foreign ≡ check_count s
+pub is-foreign : (s : Text) → is_foreign s ≡ true → None ≡ check_count s
 unfolding check_count answered
 is-foreign s e = rw e
 
-pub open_foreign : (s : Text) (at : ℕ) {depth n : ℕ} → Upto s at depth n → at < length s → length s ≤ line_end s at → answers.Foreign ≡ check_count s
+pub open_foreign : (s : Text) (at : ℕ) {met : Met} → Upto s at met → at < length s → length s ≤ line_end s at → None ≡ check_count s
 open_foreign s at u h l = is-foreign s (u.foreign ∙ not_ended s at h u.stack l)
 
-pub all_counted : (s : Text) (at : ℕ) {depth n : ℕ} → Upto s at depth n → length s ≤ at → answers.Counted n ≡ check_count s
+pub all_counted : (s : Text) (at : ℕ) {met : Met} → Upto s at met → length s ≤ at → Some met.checks ≡ check_count s
 unfolding check_count answered foreign_from ended all hear_all is_lost checks_from
-all_counted s at {n = n} u h =
+all_counted s at {met} u h =
     let behind : drop at s ≡ [] = drop_of_length-le s {i = at} h in
     let none : cut (drop at s) ≡ [] = cut_behind s at h in
     let f : is_foreign s ≡ false = u.foreign ∙ rw (none, behind) in
-    let c : length (checks s) ≡ n + 0 = u.count ∙ rw none in
-    rw f (ap answers.Counted (omega (arith, c)))
+    let c : length (checks s) ≡ met.checks + 0 = u.count ∙ rw none in
+    rw f (ap Some (omega (arith, c)))
 
-pub upto_next : (s : Text) (at : ℕ) {e d m : ℕ} → e ≡ line_end s at → Upto s (suc (line_end s at)) d m → Upto s (e + 1) d m
+pub upto_next : (s : Text) (at : ℕ) {e : ℕ} {met : Met} → e ≡ line_end s at → Upto s (suc (line_end s at)) met → Upto s (e + 1) met
 upto_next s at q u = rw (q, add-one (line_end s at)) u

@@ -1,12 +1,10 @@
 -- A foreign script: whether every line is a command of ours, and the live levels at each check-sat.
-use Rattle.std.specs.Prelude.{ℕ, ◌+◌, Bool, true, false, not, ◌||◌, List, [], ◌∷◌, ◌++◌, length, drop}
+use Rattle.std.specs.Prelude.{ℕ, Bool, true, false, not, ◌||◌, List, [], ◌∷◌, ◌++◌, Option, Some, None, length, drop}
 use Rattle.basics.specs.Text.{Text, same}
 use Rattle.basics.specs.Lists.{all}
 use Rattle.smt_engines.specs.SmtEngines.{CMD_CHECK_SAT}
 use Rattle.smt_engines.specs.Reader.{cut, Stack, first, Reader, live, lost, hear, hear_all, read}
 use Rattle.command_lines.specs.CommandLines.{is_command, ended}
-use Rattle.script_checks.specs.declared.Checks.{Checks}
-use Rattle.script_checks.specs.declared.Checks.TheVariants.{Counted, Foreign}
 
 unfoldable pub is_lost : Reader → Bool
 is_lost (live st) = false
@@ -32,10 +30,10 @@ is_foreign script = not (ended script) || not (all (cut script) is_command) || i
 unfoldable pub foreign_from : Text → ℕ → Stack → Bool
 foreign_from script at st = not (ended (drop at script)) || not (all (cut (drop at script)) is_command) || is_lost (hear_all (live st) (cut (drop at script)))
 
-unfoldable pub answered : (foreign : Bool) → ℕ → Checks
-answered true n = Foreign
-answered false n = Counted n
+unfoldable pub answered : (foreign : Bool) → ℕ → Option ℕ
+answered true n = None
+answered false n = Some n
 
 -- how many check-sats there are, or that a line is none of ours
-unfoldable pub check_count : Text → Checks
+unfoldable pub check_count : Text → Option ℕ
 check_count script = answered (is_foreign script) (length (checks script))

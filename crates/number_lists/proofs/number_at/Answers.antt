@@ -6,5 +6,5 @@ use Rattle.number_lists.proofs.number_at.Goals as goal
 pub returns-then-i-list : goal.returns-then-i-list
 returns-then-i-list c = c.word.ensures.is ∙ whole _ _ (omega arith)
 
-pub returns : goal.returns
-returns c = cut _ _ c.requires (omega arith)
+pub returns-else-i-list : goal.returns-else-i-list
+returns-else-i-list c = cut _ _ c.requires (omega arith)

@@ -1,4 +1,3 @@
-use Prim.Native.Nat.{◌-◌}
 use Rattle.number_lists.specs.Numbers.{numbers}
 use Rattle.question_lists.specs.Questions.{questions_of}
 use Rattle.question_lists.proofs.Complete.{Asking}
@@ -6,6 +5,3 @@ use Rattle.question_lists.proofs.all_complete.Given as goal
 
 abbrev pub invariant-loop-i : goal.invariant-loop-i
 invariant-loop-i l = Asking l.book (questions_of (numbers l.list)) l.i l.at l.levels
-
-abbrev pub decreases-loop-i : goal.decreases-loop-i
-decreases-loop-i l = l.length - l.i

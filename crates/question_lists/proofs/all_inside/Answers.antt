@@ -1,27 +1,14 @@
-use Prim.Native.Nat.{◌-◌}
-use native.Mathlib.Omega.{arith}
+use Rattle.std.proofs.Common.{◌∙◌, refl, length, leb, ltb, ◌&&◌, arith, rules}
+use Rattle.std.proofs.lemmas.Iterator.{YieldsList-from_range}
+use Rattle.std.proofs.lemmas.Iterator.Search.{all_from_yields_List}
+use borrow.Author.Tests.{tests}
 use Rattle.number_lists.specs.Numbers.{numbers}
-use Rattle.question_lists.specs.Questions.{questions_of}
-use Rattle.question_lists.proofs.Inside.{inside_none, inside_more, no_node, no_goal, inside_done}
+use Rattle.question_lists.specs.Questions.{questions_of, question_at}
+use Rattle.question_lists.proofs.Inside.{by_range}
 use Rattle.question_lists.proofs.all_inside.Goals as goal
 
-pub loop-i-init : goal.loop-i-init
-loop-i-init c = (inside_none c.args.book.now (questions_of (numbers c.args.list.now)), omega arith)
-
-pub node_of-requires : goal.node_of-requires
-node_of-requires c = omega (arith, c.question_count-length.ensures, c.loop-i-test.true)
-
-pub returns-then-nodes-node_of : goal.returns-then-nodes-node_of
-returns-then-nodes-node_of c = no_node _ _ _ c.node_of.ensures (omega (arith, c.count-nodes.ensures.is, c.if-nodes-node_of.true)) (omega (arith, c.question_count-length.ensures, c.loop-i-test.true))
-
-pub goal_of-requires : goal.goal_of-requires
-goal_of-requires c = omega (arith, c.question_count-length.ensures, c.loop-i-test.true)
-
-pub returns-then-terms-goal_of : goal.returns-then-terms-goal_of
-returns-then-terms-goal_of c = no_goal _ _ _ c.node_of.ensures c.goal_of.ensures (omega (arith, c.count-terms.ensures.is, c.if-terms-goal_of.true)) (omega (arith, c.question_count-length.ensures, c.loop-i-test.true))
-
-pub loop-i-preserved : goal.loop-i-preserved
-loop-i-preserved c = (inside_more _ _ _ c.node_of.ensures c.goal_of.ensures c.loop-i.invariant.0 (omega (arith, c.count-nodes.ensures.is, c.if-nodes-node_of.false)) (omega (arith, c.count-terms.ensures.is, c.if-terms-goal_of.false)), omega (arith, c.loop-i-test.true))
-
 pub returns : goal.returns
-returns c = inside_done _ _ c.loop-i.invariant.0 (omega (arith, c.question_count-length.ensures, c.loop-i-test.false, c.loop-i.invariant.1))
+returns c =
+    all_from_yields_List (λ i. leb (question_at (questions_of (numbers c.args.list.now)) i).node c.count-nodes.result && ltb (question_at (questions_of (numbers c.args.list.now)) i).goal c.count-terms.result) _ _ _ c.all.ensures.ran
+    (YieldsList-from_range 0 c.question_count.result (length (questions_of (numbers c.args.list.now))) refl (omega (arith, c.question_count.ensures))) (λ x b q k. search (rules, tests))
+    ∙ by_range c.args.book.now (questions_of (numbers c.args.list.now)) c.count-nodes.ensures.is c.count-terms.ensures.is

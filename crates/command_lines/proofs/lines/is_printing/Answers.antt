@@ -1,8 +1,11 @@
-use Rattle.command_lines.proofs.Comparing.{prints_not, prints_by}
+use Rattle.std.proofs.Common.{rules}
+use Rattle.command_lines.specs.CommandLines.{is_printing}
 use Rattle.command_lines.proofs.lines.is_printing.Goals as goal
 
-pub returns-then-c-lt-FIRST_PRINTING : goal.returns-then-c-lt-FIRST_PRINTING
-returns-then-c-lt-FIRST_PRINTING c = prints_not _ c.if-c-lt-FIRST_PRINTING.true
+pub returns-then-c-ge-FIRST_PRINTING : goal.returns-then-c-ge-FIRST_PRINTING
+unfolding is_printing
+returns-then-c-ge-FIRST_PRINTING c = search rules
 
-pub returns-else-c-lt-FIRST_PRINTING : goal.returns-else-c-lt-FIRST_PRINTING
-returns-else-c-lt-FIRST_PRINTING c = prints_by _ c.if-c-lt-FIRST_PRINTING.false
+pub returns-else-c-ge-FIRST_PRINTING : goal.returns-else-c-ge-FIRST_PRINTING
+unfolding is_printing
+returns-else-c-ge-FIRST_PRINTING c = search rules

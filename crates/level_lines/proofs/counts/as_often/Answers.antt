@@ -1,9 +1,9 @@
-use Rattle.level_lines.proofs.Parts.{part_length}
-use Rattle.level_lines.proofs.Counting.{often_not, often_by}
+use Rattle.std.proofs.Common.{◌∙◌}
+use Rattle.level_lines.proofs.Counting.{often_even, often_uneven}
 use Rattle.level_lines.proofs.counts.as_often.Goals as goal
 
-pub returns-then-to-from : goal.returns-then-to-from
-returns-then-to-from c = often_not _ _ (part_length _ _ _ _ c.requires.0.inside) (part_length _ _ _ _ c.requires.1.inside) c.if-to-from.true
+pub returns-then-a-b : goal.returns-then-a-b
+returns-then-a-b c = c.all_even.ensures ∙ often_even _ _ _ _ c.if-a-b.true
 
-pub returns : goal.returns
-returns c = often_by _ _ (part_length _ _ _ _ c.requires.0.inside) (part_length _ _ _ _ c.requires.1.inside) c.if-to-from.false c.all_even.ensures
+pub returns-else-a-b : goal.returns-else-a-b
+returns-else-a-b c = often_uneven c.args.a.text.now c.args.b.text.now _ _ c.if-a-b.false

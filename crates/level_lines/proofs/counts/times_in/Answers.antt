@@ -1,19 +1,14 @@
+use Rattle.std.proofs.Common.{◌∙◌, rules}
+use Rattle.std.proofs.lemmas.Iterator.{YieldsList-from_slice}
+use Rattle.std.proofs.lemmas.Iterator.Consumers.{YieldsList-from_filter, count_from_yields_List}
+use borrow.Author.Tests.{tests}
 use Rattle.basics.specs.Text.{same}
-use Prim.Native.Nat.{◌-◌}
-use native.Mathlib.Omega.{arith}
 use Rattle.command_lines.specs.Lines.{line_at}
-use Rattle.level_lines.proofs.Counting.{one_most, counted_none, counted_more, counted_all}
-use borrow.Author.Rules.{rules}
+use Rattle.level_lines.proofs.Counting.{times_filter}
 use Rattle.level_lines.proofs.counts.times_in.Goals as goal
 
-pub loop-i-init : goal.loop-i-init
-loop-i-init c = (counted_none _ _ _ _ _, search rules)
-
-pub overflow_add-n : goal.overflow_add-n
-overflow_add-n c = omega (arith, one_most (same (line_at c.args.a.now c.args.at) (line_at c.args.b.now c.start_of.result)) c.one-n.ensures, c.loop-i.invariant.1, c.loop-i-test.true)
-
-pub loop-i-preserved : goal.loop-i-preserved
-loop-i-preserved c = (counted_more _ _ _ _ _ _ _ c.loop-i.invariant.0 c.loop-i-test.true c.requires c.start_of.ensures c.one-n.ensures, omega (arith, one_most (same (line_at c.args.a.now c.args.at) (line_at c.args.b.now c.start_of.result)) c.one-n.ensures, c.loop-i.invariant.1))
-
 pub returns : goal.returns
-returns c = counted_all _ _ _ _ _ _ c.loop-i.i c.loop-i.invariant.0 (omega (arith, c.loop-i-test.false))
+returns c =
+    count_from_yields_List _ _ c.count.ensures.ran
+    (YieldsList-from_filter _ (λ at. same (line_at c.args.lines.text.now at) c.args.line.now) (YieldsList-from_slice c.args.lines.starts.now cc) c.filter.ensures.closure (λ x b q k. search (rules, tests)))
+    ∙ times_filter c.args.line.now c.args.lines.text.now c.args.lines.starts.now
