@@ -16,8 +16,8 @@ overflow_add-t c = omega (arith, c.requires.1, c.requires.0.promise.terms_laid.f
 pub mark-requires : goal.mark-requires
 mark-requires c = omega (arith, c.requires.0.wide, c.requires.1, c.requires.0.promise.terms_laid.few, c.declare_new_types-done.auto.levels)
 
-pub declare_literal-n-requires : goal.declare_literal-n-requires
-declare_literal-n-requires c = (c.requires.0.promise, c.requires.1, c.requires.2)
+pub declare_literal-at-requires : goal.declare_literal-at-requires
+declare_literal-at-requires c = (c.requires.0.promise, c.requires.1, c.requires.2)
 
 pub returns : goal.returns
-returns c = literal_new _ _ c.well_formed.1.1.1.1.1.0.0 c.field-typ.ensures.is c.declare_new_types-done.ensures c.mark.ensures c.declare_literal-n.ensures refl
+returns c = literal_new _ _ c.well_formed.1.1.1.1.1.0.0 c.field-typ.ensures.is c.declare_new_types-done.ensures c.mark.ensures c.declare_literal-at.ensures refl
