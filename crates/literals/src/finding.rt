@@ -19,11 +19,22 @@ fn literals_at(book: &[u8], k: usize) -> usize
     requires { Promise book.now × (k < size book.now terms) }
     ensures { result ≡ literal_count (literal_at book.now k ∷ []) }
 {
-    if field(book, TERMS, k, KIND) == CUSTOM_LITERAL { 1 } else { 0 }
+    if field(book, TERMS, k, KIND) == CUSTOM_LITERAL {
+        1
+    } else {
+        0
+    }
 }
 
 // Term k is a literal that declared the name. The level is looked at before the record, and most terms are not declared.
-fn declares_name(book: &[u8], k: usize, sought: Sought, s: &[u8], typ: &[u8], levels: &[Level]) -> bool
+fn declares_name(
+    book: &[u8],
+    k: usize,
+    sought: Sought,
+    s: &[u8],
+    typ: &[u8],
+    levels: &[Level],
+) -> bool
     requires { Promise book.now × (k < size book.now terms) × Seeks book.now sought s.now typ.now × (length levels.now ≡ level_count) }
     ensures { result ≡ declares_name book.now (barred s.now typ.now) levels.now k }
 {

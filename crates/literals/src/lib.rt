@@ -1,11 +1,12 @@
 #![tactic(auto)]
 // Declares literals. One whose whole name is declared already is not declared again.
-ghost use Rattle.std.specs.Prelude.{◌≡◌, ◌<◌, length, drop};
-ghost use Rattle.book.specs.Book.{terms, size};
-ghost use Rattle.book.specs.Decode.{literal_of, program};
+ghost use Rattle.std.specs.Prelude.{◌≡◌, ◌+◌, ◌<◌, length, drop};
+ghost use Rattle.book.specs.Book.{types, terms, size, user_types};
+ghost use Rattle.book.specs.Decode.{type_of, literal_of, program};
 ghost use Rattle.book.specs.RExpr.{is_tag};
 ghost use Rattle.book_test.specs.Promise.{Promise, GoodLiteral};
 ghost use Rattle.solver_expr.specs.Lowering.{literal_name};
+ghost use Rattle.solver_expr.specs.SolverExpr.{type_to_string};
 ghost use Rattle.rsolver.specs.LevelState.{literal_places, level_count, name_in};
 ghost use Rattle.levels.specs.Did.{Ready, Did};
 ghost use Rattle.literal_names.specs.Names.{barred, Seeks};
@@ -36,21 +37,27 @@ fn is_declared(book: &[u8], sought: Sought, s: &[u8], typ: &[u8], levels: &[Leve
     find_literal(book, sought, s, typ, levels).found.is_some()
 }
 
+// The text of type typ.
+fn type_text(book: &[u8], typ: usize) -> &[u8]
+    requires { Promise book.now × (typ < user_types + size book.now types) }
+    ensures { result.now ≡ type_to_string (type_of book.now typ) }
+{
+    match typ {
+        BOOL => b"bool",
+        INT => b"int",
+        USER_TYPES.. => named(book, TYPES, typ - USER_TYPES, TYPE_NAME),
+    }
+}
+
 // The name of the literal that term t is, is declared.
 fn is_named(book: &[u8], t: usize, levels: &[Level]) -> bool
     requires { Promise book.now × (t < size book.now terms) × GoodLiteral book.now t × (length levels.now ≡ level_count) }
     ensures { result ≡ name_in (literal_name (literal_of book.now t)) (program book.now).literals (drop literal_places levels.now) }
 {
     let s = named(book, TERMS, t, LITERAL_NAME);
-    let typ = field(book, TERMS, t, LITERAL_TYPE);
     let name = field(book, TERMS, t, LITERAL_NAME);
-    let sought = Sought { name, typ };
-    let text = match typ {
-        BOOL => &b"bool"[..],
-        INT => b"int",
-        USER_TYPES.. => named(book, TYPES, typ - USER_TYPES, TYPE_NAME),
-    };
-    is_declared(book, sought, s, text, levels)
+    let typ = field(book, TERMS, t, LITERAL_TYPE);
+    is_declared(book, Sought { name, typ }, s, type_text(book, typ), levels)
 }
 
 // The literal that term t is prints as a number.
