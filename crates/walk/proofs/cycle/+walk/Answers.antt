@@ -11,6 +11,7 @@ use Rattle.walk.proofs.Shapes.{last_kind}
 use Rattle.walk.proofs.Walks.{term_fewer, terms_fewer, patterns_fewer, operator_fewer, axioms_fewer, type_fewer, variables_fewer, function_fewer, walked_none, walked_literal, walked_id, walked_built_in, walked_application, walked_if, walked_let, walked_quantifier, terms_none, terms_more, patterns_none, patterns_more}
 use Rattle.walk.proofs.Axioms.{operator_old, operator_new, axioms_none, axioms_more, axiom_missing, axiom_old, axiom_early, axiom_sent, mark_fewer, sent_axiom}
 use Rattle.walk.proofs.cycle.+walk.Goals as goal
+use Rattle.walk.proofs.cycle.+walk.Goals.{walk_axiom-else-levels-k-eq0-via-then-levels-k-eq0+else-all_explained, walk_axiom-else-levels-k-eq0-via-else-levels-k-eq0}
 
 pub send_axiom-mark-requires : goal.send_axiom-mark-requires
 send_axiom-mark-requires t c = omega (arith, c.requires.1, c.requires.0.promise.axioms_laid.few, c.requires.0.wide)
@@ -42,11 +43,10 @@ walk_axiom-send_axiom-requires t c = (omega (arith, c.decreases), (c.requires.0,
 pub walk_axiom-returns-then-all_explained : goal.walk_axiom-returns-then-all_explained
 walk_axiom-returns-then-all_explained t c = axiom_sent _ c.requires.1 c.field-cond.ensures.is c.if-cond-eq-NO_TERM.false c.if-levels-k-eq0.true c.all_explained.ensures c.if-all_explained.true c.send_axiom.ensures
 
-pub walk_axiom-returns-else-all_explained : goal.walk_axiom-returns-else-all_explained
-walk_axiom-returns-else-all_explained t c = axiom_early _ c.requires.1 c.field-cond.ensures.is c.if-cond-eq-NO_TERM.false _ _ _ _ c.if-levels-k-eq0.true c.all_explained.ensures c.if-all_explained.false (omega (arith, c.well_formed.1.1.1.1.0))
-
 pub walk_axiom-returns-else-levels-k-eq0 : goal.walk_axiom-returns-else-levels-k-eq0
-walk_axiom-returns-else-levels-k-eq0 t c = axiom_old _ c.requires.1 c.field-cond.ensures.is c.if-cond-eq-NO_TERM.false _ _ _ _ c.if-levels-k-eq0.false (omega (arith, c.well_formed.1.1.1.1.0))
+walk_axiom-returns-else-levels-k-eq0 t c = elim c.else-levels-k-eq0.branch [
+  walk_axiom-else-levels-k-eq0-via-then-levels-k-eq0+else-all_explained w ↦ axiom_early _ c.requires.1 c.field-cond.ensures.is c.if-cond-eq-NO_TERM.false _ _ _ _ w.if-levels-k-eq0.true w.all_explained.ensures w.if-all_explained.false (omega (arith, c.well_formed.1.1.1.1.0))
+  | walk_axiom-else-levels-k-eq0-via-else-levels-k-eq0 w ↦ axiom_old _ c.requires.1 c.field-cond.ensures.is c.if-cond-eq-NO_TERM.false _ _ _ _ w.if-levels-k-eq0.false (omega (arith, c.well_formed.1.1.1.1.0)) ]
 
 pub walk_axioms-loop-i-init : goal.walk_axioms-loop-i-init
 walk_axioms-loop-i-init t c = (axioms_none _ _ _ _ _ _ (omega (arith, c.well_formed.1.1.1.1.1.0)), refl)
