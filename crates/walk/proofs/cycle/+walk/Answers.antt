@@ -13,32 +13,14 @@ use Rattle.walk.proofs.Axioms.{operator_old, operator_new, axioms_none, axioms_m
 use Rattle.walk.proofs.cycle.+walk.Goals as goal
 use Rattle.walk.proofs.cycle.+walk.Goals.{walk_axiom-else-levels-k-eq0-via-then-levels-k-eq0+else-all_explained, walk_axiom-else-levels-k-eq0-via-else-levels-k-eq0}
 
-pub send_axiom-mark-requires : goal.send_axiom-mark-requires
-send_axiom-mark-requires t c = omega (arith, c.requires.1, c.requires.0.promise.axioms_laid.few, c.requires.0.wide)
-
 pub send_axiom-walk_term-done-requires : goal.send_axiom-walk_term-done-requires
 send_axiom-walk_term-done-requires t c = (omega (arith, c.decreases, mark_fewer _ c.requires.0 c.requires.1 c.requires.3 c.mark.ensures, c.requires.2, c.requires.0.promise.terms_laid.few), (ready_next c.requires.0 c.mark.auto.levels, c.requires.2))
-
-pub send_axiom-assume-at-requires : goal.send_axiom-assume-at-requires
-send_axiom-assume-at-requires t c = (c.requires.0.promise, c.requires.2)
-
-pub send_axiom-shape_of-levels : goal.send_axiom-shape_of-levels
-send_axiom-shape_of-levels t c = c.walk_term-done.auto.levels ∙ c.mark.auto.levels
-
-pub send_axiom-shape_of-out : goal.send_axiom-shape_of-out
-send_axiom-shape_of-out t c = c.assume-at.auto.out ∙ c.walk_term-done.auto.out
 
 pub send_axiom-returns : goal.send_axiom-returns
 send_axiom-returns t c = sent_axiom _ c.requires.0 c.requires.1 c.requires.3 c.mark.ensures _ c.well_formed.1.1.1.1.1.1.0.0 (omega (arith, c.well_formed.1.1.1.1.1.0)) c.mark.auto.levels c.nothing-none.ensures c.walk_term-done.ensures c.declared_count-tag.ensures c.assume-at.ensures refl
 
 pub walk_axiom-returns-then-cond-eq-NO_TERM : goal.walk_axiom-returns-then-cond-eq-NO_TERM
 walk_axiom-returns-then-cond-eq-NO_TERM t c = axiom_missing _ c.requires.1 c.field-cond.ensures.is _ c.if-cond-eq-NO_TERM.true refl refl (omega (arith, c.well_formed.1.1.1.1.0))
-
-pub walk_axiom-all_explained-requires : goal.walk_axiom-all_explained-requires
-walk_axiom-all_explained-requires t c = (c.requires.0.promise, c.requires.1, c.requires.0.wide)
-
-pub walk_axiom-send_axiom-requires : goal.walk_axiom-send_axiom-requires
-walk_axiom-send_axiom-requires t c = (omega (arith, c.decreases), (c.requires.0, c.requires.1, rw c.field-cond.ensures.is ((c.requires.0.promise.axiom' _ c.requires.1).term (λ e. c.if-cond-eq-NO_TERM.false (c.field-cond.ensures.is ∙ e))), c.if-levels-k-eq0.true))
 
 pub walk_axiom-returns-then-all_explained : goal.walk_axiom-returns-then-all_explained
 walk_axiom-returns-then-all_explained t c = axiom_sent _ c.requires.1 c.field-cond.ensures.is c.if-cond-eq-NO_TERM.false c.if-levels-k-eq0.true c.all_explained.ensures c.if-all_explained.true c.send_axiom.ensures
@@ -57,26 +39,8 @@ walk_axioms-walk_axiom-done-requires t c = (omega (arith, c.decreases, axioms_fe
 pub walk_axioms-loop-i-preserved : goal.walk_axioms-loop-i-preserved
 walk_axioms-loop-i-preserved t c = (axioms_more _ _ _ c.well_formed.1.1.1.1.1.1.0.0 c.loop-i.invariant.0 c.field-k.ensures.is c.walk_axiom-done.ensures, c.walk_axiom-done.auto.levels ∙ c.loop-i.invariant.1)
 
-pub walk_axioms-shape_of-levels : goal.walk_axioms-shape_of-levels
-walk_axioms-shape_of-levels t c = c.loop-i.invariant.1
-
-pub walk_axioms-shape_of-out : goal.walk_axioms-shape_of-out
-walk_axioms-shape_of-out t c = did_length (c.loop-i.invariant.0.did [])
-
-pub walk_axioms-returns : goal.walk_axioms-returns
-walk_axioms-returns t c = let e : c.loop-i.i ≡ c.args.count = omega arith in rw e at c.loop-i.invariant.0
-
-pub walk_operator-declare_function-done-requires : goal.walk_operator-declare_function-done-requires
-walk_operator-declare_function-done-requires t c = (c.requires.0, c.requires.1)
-
 pub walk_operator-walk_axioms-requires : goal.walk_operator-walk_axioms-requires
 walk_operator-walk_axioms-requires t c = (omega (arith, c.decreases, function_fewer c.requires.0 _ c.declare_function-done.ensures), (ready_next c.requires.0 c.declare_function-done.auto.levels, rw (c.field-start.ensures.is, c.field-count.ensures.is) (c.requires.0.promise.function _ c.requires.1).explained_by))
-
-pub walk_operator-shape_of-levels : goal.walk_operator-shape_of-levels
-walk_operator-shape_of-levels t c = c.walk_axioms.auto.levels ∙ c.declare_function-done.auto.levels
-
-pub walk_operator-shape_of-out : goal.walk_operator-shape_of-out
-walk_operator-shape_of-out t c = c.walk_axioms.auto.out ∙ c.declare_function-done.auto.out
 
 pub walk_operator-returns-then-levels-k-eq0 : goal.walk_operator-returns-then-levels-k-eq0
 walk_operator-returns-then-levels-k-eq0 t c = operator_new _ _ c.well_formed.1.1.1.1.1.0.0 c.if-levels-k-eq0.true c.declare_function-done.ensures c.field-start.ensures.is c.field-count.ensures.is c.walk_axioms.ensures
@@ -92,15 +56,6 @@ walk_patterns-walk_terms-done-requires t c = (omega (arith, c.decreases, pattern
 
 pub walk_patterns-loop-i-preserved : goal.walk_patterns-loop-i-preserved
 walk_patterns-loop-i-preserved t c = (patterns_more _ _ _ c.well_formed.1.1.1.1.1.1.1.1.0.0 c.loop-i.invariant.0 c.field-p.ensures.is c.field-first.ensures.is c.field-many.ensures.is c.walk_terms-done.ensures, c.walk_terms-done.auto.levels ∙ c.loop-i.invariant.1)
-
-pub walk_patterns-shape_of-levels : goal.walk_patterns-shape_of-levels
-walk_patterns-shape_of-levels t c = c.loop-i.invariant.1
-
-pub walk_patterns-shape_of-out : goal.walk_patterns-shape_of-out
-walk_patterns-shape_of-out t c = did_length (c.loop-i.invariant.0.did (listed _ constants.most) (excludes_listed _ c.args.exclude.now.long))
-
-pub walk_patterns-returns : goal.walk_patterns-returns
-walk_patterns-returns t c = let e : c.loop-i.i ≡ c.args.count = omega arith in rw e at c.loop-i.invariant.0
 
 pub walk_term-declare_literal-requires : goal.walk_term-declare_literal-requires
 walk_term-declare_literal-requires t c = (c.requires.0, c.requires.1, good_literal c.requires.0.promise c.requires.1 c.field.ensures.is c.in-2.is)
@@ -159,41 +114,17 @@ walk_term-returns-in-3 t c = walked_id c.requires.0.promise c.requires.1 c.field
 pub walk_term-returns-in-4 : goal.walk_term-returns-in-4
 walk_term-returns-in-4 t c = walked_built_in c.requires.0.promise c.requires.1 c.field.ensures.is c.in-4.is c.field-start.ensures.is c.field-count.ensures.is c.walk_terms.ensures
 
-pub walk_term-shape_of-levels-in-5 : goal.walk_term-shape_of-levels-in-5
-walk_term-shape_of-levels-in-5 t c = c.walk_terms-in-5.auto.levels ∙ c.walk_operator-done.auto.levels
-
-pub walk_term-shape_of-out-in-5 : goal.walk_term-shape_of-out-in-5
-walk_term-shape_of-out-in-5 t c = c.walk_terms-in-5.auto.out ∙ c.walk_operator-done.auto.out
-
 pub walk_term-returns-in-5 : goal.walk_term-returns-in-5
 walk_term-returns-in-5 t c = walked_application c.requires.0.promise c.requires.1 c.field.ensures.is c.well_formed.1.1.1.1.1.1.0.0 c.in-5.is c.field-f.ensures.is c.field-start-in-5.ensures.is c.field-count-in-5.ensures.is c.walk_operator-done.ensures c.walk_terms-in-5.ensures
 
-pub walk_term-shape_of-levels-in-6 : goal.walk_term-shape_of-levels-in-6
-walk_term-shape_of-levels-in-6 t c = c.walk_term.auto.levels ∙ c.walk_term-two.auto.levels ∙ c.walk_term-one.auto.levels
-
-pub walk_term-shape_of-out-in-6 : goal.walk_term-shape_of-out-in-6
-walk_term-shape_of-out-in-6 t c = c.walk_term.auto.out ∙ c.walk_term-two.auto.out ∙ c.walk_term-one.auto.out
-
 pub walk_term-returns-in-6 : goal.walk_term-returns-in-6
 walk_term-returns-in-6 t c = walked_if c.requires.0.promise c.requires.1 c.field.ensures.is c.well_formed.1.1.1.1.1.1.0.0 c.in-6.is c.field-guard.ensures.is c.field-thn.ensures.is c.field-els.ensures.is c.walk_term-one.ensures c.walk_term-two.ensures c.walk_term.ensures
-
-pub walk_term-shape_of-levels-in-7 : goal.walk_term-shape_of-levels-in-7
-walk_term-shape_of-levels-in-7 t c = c.walk_term-in-7.auto.levels ∙ c.walk_term-two-in-7.auto.levels ∙ c.declare_type_of-one.auto.levels
-
-pub walk_term-shape_of-out-in-7 : goal.walk_term-shape_of-out-in-7
-walk_term-shape_of-out-in-7 t c = c.walk_term-in-7.auto.out ∙ c.walk_term-two-in-7.auto.out ∙ c.declare_type_of-one.auto.out
 
 pub walk_term-returns-in-7 : goal.walk_term-returns-in-7
 walk_term-returns-in-7 t c = walked_let c.requires.0.promise c.requires.1 c.field.ensures.is c.well_formed.1.1.1.1.1.1.0.0 c.in-7.is c.field-v-in-7.ensures.is c.field-rhs.ensures.is c.field-body.ensures.is c.declare_type_of-one.ensures c.walk_term-two-in-7.ensures c.with-more.ensures c.walk_term-in-7.ensures
 
 pub walk_term-returns-in-0-to-1 : goal.walk_term-returns-in-0-to-1
 walk_term-returns-in-0-to-1 t c = walked_none c.requires.0.promise c.requires.1 c.field.ensures.is (omega arith) _ _ _ _ _ (omega (arith, c.well_formed.1.1.1.1.1.0))
-
-pub walk_term-shape_of-levels-in_default : goal.walk_term-shape_of-levels-in_default
-walk_term-shape_of-levels-in_default t c = c.walk_term-in_default.auto.levels ∙ c.walk_patterns-two.auto.levels ∙ c.declare_variables-one.auto.levels
-
-pub walk_term-shape_of-out-in_default : goal.walk_term-shape_of-out-in_default
-walk_term-shape_of-out-in_default t c = c.walk_term-in_default.auto.out ∙ c.walk_patterns-two.auto.out ∙ c.declare_variables-one.auto.out
 
 pub walk_term-returns-in_default : goal.walk_term-returns-in_default
 walk_term-returns-in_default t c = walked_quantifier c.requires.0.promise c.requires.1 c.field.ensures.is c.well_formed.1.1.1.1.1.1.0.0 (last_kind c.requires.0.promise c.requires.1 c.field.ensures.is (omega (arith, c.in_default.if-this-lt2-own.false)) c.in_default.in_default-own.rest.0.0.0.0.0.1 c.in_default.in_default-own.rest.0.0.0.0.1 c.in_default.in_default-own.rest.0.0.0.1 c.in_default.in_default-own.rest.0.0.1 c.in_default.in_default-own.rest.0.1 c.in_default.in_default-own.rest.1) c.field-start-in_default.ensures.is c.field-count-in_default.ensures.is c.field-body-in_default.ensures.is c.declare_variables-one.ensures c.exclude_variables-more.ensures c.walk_patterns-two.ensures c.walk_term-in_default.ensures
@@ -206,12 +137,3 @@ walk_terms-walk_term-done-requires t c = (omega (arith, c.decreases, c.field-t.e
 
 pub walk_terms-loop-i-preserved : goal.walk_terms-loop-i-preserved
 walk_terms-loop-i-preserved t c = (terms_more _ _ _ c.well_formed.1.1.1.1.1.1.1.1.0.0 c.loop-i.invariant.0 c.field-t.ensures.is c.walk_term-done.ensures, c.walk_term-done.auto.levels ∙ c.loop-i.invariant.1)
-
-pub walk_terms-shape_of-levels : goal.walk_terms-shape_of-levels
-walk_terms-shape_of-levels t c = c.loop-i.invariant.1
-
-pub walk_terms-shape_of-out : goal.walk_terms-shape_of-out
-walk_terms-shape_of-out t c = did_length (c.loop-i.invariant.0.did (listed _ constants.most) (excludes_listed _ c.args.exclude.now.long))
-
-pub walk_terms-returns : goal.walk_terms-returns
-walk_terms-returns t c = let e : c.loop-i.i ≡ c.args.count = omega arith in rw e at c.loop-i.invariant.0

@@ -8,12 +8,6 @@ use Rattle.walk.proofs.leaves.all_explained.Goals as goal
 pub loop-i-init : goal.loop-i-init
 loop-i-init c = explained_none _ _ c.args.levels.now
 
-pub overflow_add-f : goal.overflow_add-f
-overflow_add-f c = omega (arith, c.field-f.ensures.is, c.requires.0.functions_laid.few, (rw (← c.field-start.ensures.is, ← c.field-count.ensures.is) at (c.requires.0.axiom' c.args.k c.requires.1).explains).below c.loop-i.i (omega arith))
-
-pub bounds-levels-f : goal.bounds-levels-f
-bounds-levels-f c = omega (arith, c.field-f.ensures.is, c.requires.0.functions_laid.few, c.requires.2, (rw (← c.field-start.ensures.is, ← c.field-count.ensures.is) at (c.requires.0.axiom' c.args.k c.requires.1).explains).below c.loop-i.i (omega arith))
-
 pub returns-then-levels-f-eq0 : goal.returns-then-levels-f-eq0
 returns-then-levels-f-eq0 c = explained_stop _ _ _ c.field-start.ensures.is c.field-count.ensures.is (omega arith) c.field-f.ensures.is c.if-levels-f-eq0.true
 
