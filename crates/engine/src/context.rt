@@ -17,18 +17,15 @@ pub fn depth_of(book: &[u8], node: usize) -> usize
     requires { IsNode book.now node }
     ensures { result ≡ depth (program book.now) node }
 {
-    let path = path_of(book, node);
-    path.depth
+    path_of(book, node).depth
 }
 
 fn pop_times(count: usize, out: &mut [u8]) -> usize
     ensures { WroteAt (script (replicate count Pop)) 0 out.old out.new result }
 {
     let mut at = 0;
-    let mut i = 0;
-    while i < count {
+    for _ in 0..count {
         at = pop(at, out);
-        i += 1;
     }
     at
 }
@@ -48,9 +45,8 @@ pub fn set_context(
     let shared = depth_of(book, old) - count;
     let below = depth_of(book, new) - shared;
     clear_above(levels, shared);
-    let at = pop_times(count, out);
     let so = Progress {
-        at: at,
+        at: pop_times(count, out),
         missing: false,
     };
     descend(book, new, below, levels, so, out)

@@ -22,22 +22,14 @@ fn enter(
     ensures { Entered book.now node levels.new so out.old out.new result }
 {
     let t = field(book, CONTEXTS, node - 1, CONTEXT_TERM);
-    let at = so.at;
-    let missing = so.missing;
-    let pushed = push(at, out);
     let start = Progress {
-        at: pushed,
-        missing: missing,
+        at: push(so.at, out),
+        ..so
     };
     let done = declare_new_symbols(book, t, level, levels, start, out);
     let tag = declared_count(levels);
-    let end = done.at;
-    let lacking = done.missing;
-    let asserted = assume(book, t, tag, end, out);
-    Progress {
-        at: asserted,
-        missing: lacking,
-    }
+    let at = assume(book, t, tag, done.at, out);
+    Progress { at, ..done }
 }
 
 // Enters the last `count` nodes of a node's path, downward.
@@ -53,14 +45,10 @@ pub fn descend(
     ensures { Descended book.now node count levels.new so out.old out.new result }
 {
     let path = path_of(book, node);
-    let nodes = path.nodes;
-    let depth = path.depth;
     let mut done = so;
-    let mut k = count;
-    while 0 < k {
-        k -= 1;
-        let level = (depth - k) as Level;
-        done = enter(book, nodes[k] as usize, level, levels, done, out);
+    for k in (0..count).rev() {
+        let level = (path.depth - k) as Level;
+        done = enter(book, path.nodes[k] as usize, level, levels, done, out);
     }
     done
 }

@@ -20,24 +20,16 @@ fn ask_goal(
     requires { Asking book.now node goal level levels.old so }
     ensures { Asked book.now node goal so out.old out.new result }
 {
-    let at = so.at;
-    let missing = so.missing;
-    let pushed = push(at, out);
     let start = Progress {
-        at: pushed,
-        missing: missing,
+        at: push(so.at, out),
+        ..so
     };
     let done = declare_new_symbols(book, goal, level, levels, start, out);
     let tag = declared_count(levels);
-    let end = done.at;
-    let lacking = done.missing;
-    let denied = push(end, out);
+    let denied = push(done.at, out);
     let asserted = assume_not(book, goal, tag, denied, out);
-    let checked = check_sat(asserted, out);
-    Progress {
-        at: checked,
-        missing: lacking,
-    }
+    let at = check_sat(asserted, out);
+    Progress { at, ..done }
 }
 
 // A move from node `old`, where the levels are, to node `new`, and the question there. The levels are then those of the node: what the goal declares is not kept.

@@ -1,3 +1,2 @@
 pub mod Did
 pub mod Types
-pub mod Marks

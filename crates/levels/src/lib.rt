@@ -5,7 +5,9 @@ mod types;
 
 pub use marks::{declared_count, mark};
 pub use session_levels::{AXIOM_PLACES, CONSTANT_PLACES, FUNCTION_PLACES, LITERAL_PLACES, Level};
-pub use types::{declare_constant, declare_constant_types, declare_function, declare_new_types};
+pub use types::{
+    declare_constant, declare_constant_types, declare_function, declare_new_types, declare_type_of,
+};
 
 // How far a walk has come: the next place in the text, and whether an axiom was looked up that has no term.
 #[derive(Clone, Copy)]

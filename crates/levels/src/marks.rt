@@ -1,7 +1,6 @@
 // The levels: one for each record, 0 for not declared.
 ghost use Rattle.std.specs.Prelude.{◌≡◌, ◌<◌, length};
 ghost use Rattle.rsolver.specs.LevelState.{join_at, count};
-ghost use Rattle.levels.specs.Marks.{declared};
 
 use session_levels::Level;
 
@@ -15,22 +14,9 @@ pub fn mark(k: usize, level: Level, levels: &mut [Level])
     }
 }
 
-// 1 for a level, 0 for none.
-fn declared(level: Level) -> usize
-    ensures { result ≡ declared level }
-{
-    if level == 0 { 0 } else { 1 }
-}
-
 // How many records are declared.
 pub fn declared_count(levels: &[Level]) -> usize
     ensures { result ≡ count levels.now }
 {
-    let mut n = 0;
-    let mut i = 0;
-    while i < levels.len() {
-        n = n + declared(levels[i]);
-        i += 1;
-    }
-    n
+    levels.iter().filter(|level| **level != 0).count()
 }

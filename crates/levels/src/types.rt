@@ -1,6 +1,6 @@
 // DeclareNewTypes, and DeclareSymbol of constants and functions with their types.
 ghost use Rattle.std.specs.Prelude.{◌+◌, ◌<◌};
-ghost use Rattle.book.specs.Book.{types, constants, functions, size, user_types};
+ghost use Rattle.book.specs.Book.{types, constants, functions, size, field, user_types};
 ghost use Rattle.book_test.specs.Promise.{Range};
 ghost use Rattle.levels.specs.Did.{Ready, Did};
 ghost use Rattle.levels.specs.Types.{user_type_step, type_step, types_step, constant_types_step, constant_step, function_step};
@@ -25,13 +25,8 @@ fn declare_type(
 {
     if levels[k] == 0 {
         mark(k, level, levels);
-        let at = so.at;
-        let missing = so.missing;
-        let n = smt_engines::declare_sort(book, k, at, out);
-        Progress {
-            at: n,
-            missing: missing,
-        }
+        let at = smt_engines::declare_sort(book, k, so.at, out);
+        Progress { at, ..so }
     } else {
         so
     }
@@ -69,13 +64,27 @@ fn declare_types(
     ensures { Did (types_step book.now start count) level levels.old levels.new so out.old out.new result }
 {
     let mut done = so;
-    let mut i = 0;
-    while i < count {
+    for i in 0..count {
         let typ = field(book, LISTS, start + i, LISTED);
         done = declare_new_types(book, typ, level, levels, done, out);
-        i += 1;
     }
     done
+}
+
+// The type of constant v.
+pub fn declare_type_of(
+    book: &[u8],
+    v: usize,
+    level: Level,
+    levels: &mut [Level],
+    so: Progress,
+    out: &mut [u8],
+) -> Progress
+    requires { Ready book.now level levels.old × (v < size book.now constants) }
+    ensures { Did (type_step book.now (field book.now constants v 1)) level levels.old levels.new so out.old out.new result }
+{
+    let typ = field(book, CONSTANTS, v, CONSTANT_TYPE);
+    declare_new_types(book, typ, level, levels, so, out)
 }
 
 // The types of the constants in a range of lists.
@@ -92,12 +101,9 @@ pub fn declare_constant_types(
     ensures { Did (constant_types_step book.now start count) level levels.old levels.new so out.old out.new result }
 {
     let mut done = so;
-    let mut i = 0;
-    while i < count {
+    for i in 0..count {
         let v = field(book, LISTS, start + i, LISTED);
-        let typ = field(book, CONSTANTS, v, CONSTANT_TYPE);
-        done = declare_new_types(book, typ, level, levels, done, out);
-        i += 1;
+        done = declare_type_of(book, v, level, levels, done, out);
     }
     done
 }
@@ -114,16 +120,10 @@ pub fn declare_constant(
     requires { Ready book.now level levels.old × (k < size book.now constants) }
     ensures { Did (constant_step book.now k) level levels.old levels.new so out.old out.new result }
 {
-    let typ = field(book, CONSTANTS, k, CONSTANT_TYPE);
-    let done = declare_new_types(book, typ, level, levels, so, out);
-    let at = done.at;
-    let missing = done.missing;
+    let done = declare_type_of(book, k, level, levels, so, out);
     mark(CONSTANT_PLACES + k, level, levels);
-    let n = smt_engines::declare_constant(book, k, at, out);
-    Progress {
-        at: n,
-        missing: missing,
-    }
+    let at = smt_engines::declare_constant(book, k, done.at, out);
+    Progress { at, ..done }
 }
 
 // Function k, and its types.
@@ -143,12 +143,7 @@ pub fn declare_function(
     let inputs = declare_types(book, start, count, level, levels, so, out);
     let typ = field(book, FUNCTIONS, k, FUNCTION_TYPE);
     let done = declare_new_types(book, typ, level, levels, inputs, out);
-    let at = done.at;
-    let missing = done.missing;
     mark(FUNCTION_PLACES + k, level, levels);
-    let n = smt_engines::declare_function(book, k, at, out);
-    Progress {
-        at: n,
-        missing: missing,
-    }
+    let at = smt_engines::declare_function(book, k, done.at, out);
+    Progress { at, ..done }
 }

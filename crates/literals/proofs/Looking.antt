@@ -1,7 +1,7 @@
 -- A look at one term: whether it is a literal, and whether it declared the name.
 use Prim.Native.Nat.{ℕ, ◌+◌}
 use mathlib.Core.Path.{◌≡◌, sym, ◌∙◌}
-use mathlib.Core.Bool.{Bool, false, not}
+use mathlib.Core.Bool.{Bool, true, false, not, false≢true}
 use mathlib.Core.List.{List, [], ◌∷◌}
 use mathlib.Core.Option.{Option, none, some}
 use lib.Dec.{eqb}
@@ -17,6 +17,9 @@ use Rattle.rsolver.specs.LevelState.{literal_places, has_name}
 use Rattle.basics.proofs.Bool.{and-false}
 use Rattle.literals.specs.Literals.{declares_name}
 use Rattle.literals.specs.Search.{literal_count}
+
+pub not_both : (l : ℕ) {x : Bool} → l ≡ 0 → x ≡ not (eqb l 0) → x ≡ true → ⊥
+not_both l z e t = false≢true (sym (e ∙ rw (eq-eqb l 0 z)) ∙ t)
 
 module _ (b : Book) where
   -- ---- a literal counts, and no other term

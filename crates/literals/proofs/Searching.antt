@@ -8,11 +8,17 @@ use mathlib.Core.List.{List, [], ◌∷◌}
 use mathlib.Core.Option.{Option, none, some, map, some-injective, none-ne-some, some-ne-none}
 use lib.Dec.{eqb}
 use lib.ListN.{length, get_or, take}
+use Rattle.std.specs.Prelude.{Option as Answer, Some, None, is_some as has_some}
 use Rattle.basics.specs.Text.{Text}
 use Rattle.basics.proofs.Bool.{and-false}
 use Rattle.book.specs.RExpr.{Literal}
 use Rattle.rsolver.specs.LevelState.{has_name, name_in}
-use Rattle.literals.specs.Search.{named_at, here, first_named, literal_count, gone_through, is_some, Searched, searched, search, is_found}
+use Rattle.literals.specs.Search.{named_at, here, first_named, literal_count, gone_through, is_some, Searched, searched, search, is_found, found_value}
+
+-- the code's answer has a term
+pub answered : (r : Answer ℕ) → has_some r ≡ is_some (found_value r)
+answered (Some k) = refl
+answered None = refl
 
 -- a place behind the first
 behind : (r : Option ℕ) (k : ℕ) → map suc r ≡ some k → (j : ℕ) × (r ≡ some j) × (k ≡ suc j)

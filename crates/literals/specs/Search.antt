@@ -1,12 +1,11 @@
 -- The search for a literal by its name's text: where it ends, and how many literal terms it has gone through. A book's terms are given
 -- by what each says if it is a literal, `(program b).literals`, and the levels by those of the literal places.
 use Rattle.std.specs.Prelude.{ℕ, suc, Bool, true, false, not, ◌&&◌, List, [], ◌∷◌, eqb, get_or, take}
+use Rattle.std.specs.Prelude.{Option as Answer, Some, None}
 use Rattle.std.proofs.Math.Option.{Option, none, some, map}
 use Rattle.basics.specs.Text.{Text}
 use Rattle.book.specs.RExpr.{Literal}
 use Rattle.rsolver.specs.LevelState.{has_name}
-use Rattle.literals.specs.declared.Found.{Found}
-use Rattle.literals.specs.declared.Found.TheVariants.{Term, Nothing}
 use Rattle.literals.specs.declared.Search.{Search}
 
 -- term k is declared and a literal of that name
@@ -52,9 +51,9 @@ abbrev pub is_found : Searched → Bool
 is_found r = is_some r.found
 
 -- ---- what the code answers
-abbrev pub found_value : Found → Option ℕ
-found_value (Term k) = some k
-found_value Nothing = none
+abbrev pub found_value : Answer ℕ → Option ℕ
+found_value (Some k) = some k
+found_value None = none
 
 abbrev pub search_value : Search → Searched
 search_value r = searched (found_value r.found) r.gone

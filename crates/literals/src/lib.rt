@@ -1,16 +1,16 @@
 #![tactic(auto)]
 // Declares literals. One whose whole name is declared already is not declared again.
-ghost use Rattle.std.specs.Prelude.{◌≡◌, ◌<◌, length, drop};
-ghost use Rattle.book.specs.Book.{terms, size};
-ghost use Rattle.book.specs.Decode.{literal_of, program};
+ghost use Rattle.std.specs.Prelude.{◌≡◌, ◌+◌, ◌<◌, length, drop};
+ghost use Rattle.book.specs.Book.{types, terms, size, user_types};
+ghost use Rattle.book.specs.Decode.{type_of, literal_of, program};
 ghost use Rattle.book.specs.RExpr.{is_tag};
 ghost use Rattle.book_test.specs.Promise.{Promise, GoodLiteral};
 ghost use Rattle.solver_expr.specs.Lowering.{literal_name};
+ghost use Rattle.solver_expr.specs.SolverExpr.{type_to_string};
 ghost use Rattle.rsolver.specs.LevelState.{literal_places, level_count, name_in};
 ghost use Rattle.levels.specs.Did.{Ready, Did};
 ghost use Rattle.literal_names.specs.Names.{barred, Seeks};
 ghost use Rattle.literals.specs.Literals.{new_literal_step, literal_step};
-ghost use Rattle.literals.specs.Search.{is_found, search_value};
 
 use basics::same;
 use book::field;
@@ -22,29 +22,11 @@ use records::named;
 
 mod finding;
 
-// Where a search ends.
-#[derive(Clone, Copy)]
-pub enum Found {
-    Term(usize),
-    Nothing,
-}
-
-// A search, and how many literal terms it has gone through.
+// The term that a search has found, and how many literal terms it has gone through.
 #[derive(Clone, Copy)]
 pub struct Search {
-    pub found: Found,
+    pub found: Option<usize>,
     pub gone: usize,
-}
-
-// A term was found.
-fn is_found(r: Search) -> bool
-    ensures { result ≡ is_found (search_value r) }
-{
-    let found = r.found;
-    match found {
-        Found::Term(k) => true,
-        Found::Nothing => false,
-    }
 }
 
 // The name is declared. The search has one caller, in which the compiler sees that its count is not read.
@@ -52,7 +34,19 @@ fn is_declared(book: &[u8], sought: Sought, s: &[u8], typ: &[u8], levels: &[Leve
     requires { Promise book.now × Seeks book.now sought s.now typ.now × (length levels.now ≡ level_count) }
     ensures { result ≡ name_in (barred s.now typ.now) (program book.now).literals (drop literal_places levels.now) }
 {
-    is_found(find_literal(book, sought, s, typ, levels))
+    find_literal(book, sought, s, typ, levels).found.is_some()
+}
+
+// The text of type typ.
+fn type_text(book: &[u8], typ: usize) -> &[u8]
+    requires { Promise book.now × (typ < user_types + size book.now types) }
+    ensures { result.now ≡ type_to_string (type_of book.now typ) }
+{
+    match typ {
+        BOOL => b"bool",
+        INT => b"int",
+        USER_TYPES.. => named(book, TYPES, typ - USER_TYPES, TYPE_NAME),
+    }
 }
 
 // The name of the literal that term t is, is declared.
@@ -61,23 +55,9 @@ fn is_named(book: &[u8], t: usize, levels: &[Level]) -> bool
     ensures { result ≡ name_in (literal_name (literal_of book.now t)) (program book.now).literals (drop literal_places levels.now) }
 {
     let s = named(book, TERMS, t, LITERAL_NAME);
-    let typ = field(book, TERMS, t, LITERAL_TYPE);
     let name = field(book, TERMS, t, LITERAL_NAME);
-    let sought = Sought {
-        name: name,
-        typ: typ,
-    };
-    match typ {
-        BOOL => is_declared(book, sought, s, b"bool", levels),
-        INT => is_declared(book, sought, s, b"int", levels),
-        USER_TYPES.. => is_declared(
-            book,
-            sought,
-            s,
-            named(book, TYPES, typ - USER_TYPES, TYPE_NAME),
-            levels,
-        ),
-    }
+    let typ = field(book, TERMS, t, LITERAL_TYPE);
+    is_declared(book, Sought { name, typ }, s, type_text(book, typ), levels)
 }
 
 // The literal that term t is prints as a number.
@@ -102,14 +82,9 @@ fn send_literal(
 {
     let typ = field(book, TERMS, t, LITERAL_TYPE);
     let done = declare_new_types(book, typ, level, levels, so, out);
-    let at = done.at;
-    let missing = done.missing;
     mark(LITERAL_PLACES + t, level, levels);
-    let n = smt_engines::declare_literal(book, t, at, out);
-    Progress {
-        at: n,
-        missing: missing,
-    }
+    let at = smt_engines::declare_literal(book, t, done.at, out);
+    Progress { at, ..done }
 }
 
 // DeclareNewSymbols of a CustomLiteral, term t.
@@ -124,11 +99,9 @@ pub fn declare_literal(
     requires { Ready book.now level levels.old × (t < size book.now terms) × GoodLiteral book.now t }
     ensures { Did (literal_step book.now t) level levels.old levels.new so out.old out.new result }
 {
-    if is_tag(book, t) {
-        return so;
+    if is_tag(book, t) || is_named(book, t, levels) {
+        so
+    } else {
+        send_literal(book, t, level, levels, so, out)
     }
-    if is_named(book, t, levels) {
-        return so;
-    }
-    send_literal(book, t, level, levels, so, out)
 }

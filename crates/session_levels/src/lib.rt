@@ -33,11 +33,7 @@ pub fn copy(levels: &[Level]) -> [Level; LEVEL_COUNT]
     ensures { result ≡ levels.now }
 {
     let mut copied = blank();
-    let mut i = 0;
-    while i < LEVEL_COUNT {
-        copied[i] = levels[i];
-        i += 1;
-    }
+    copied.copy_from_slice(levels);
     copied
 }
 
@@ -45,17 +41,7 @@ pub fn copy(levels: &[Level]) -> [Level; LEVEL_COUNT]
 pub fn same(a: &[Level], b: &[Level]) -> bool
     ensures { result ≡ same a.now b.now }
 {
-    if a.len() != b.len() {
-        return false;
-    }
-    let mut i = 0;
-    while i < a.len() {
-        if a[i] != b[i] {
-            return false;
-        }
-        i += 1;
-    }
-    true
+    a == b
 }
 
 // A level, or 0 if it is deeper than `depth`.
@@ -69,9 +55,7 @@ fn kept(level: Level, depth: usize) -> Level
 pub fn clear_above(levels: &mut [Level], depth: usize)
     ensures { levels.new ≡ forget (depth + 1) levels.old }
 {
-    let mut i = 0;
-    while i < levels.len() {
-        levels[i] = kept(levels[i], depth);
-        i += 1;
+    for level in levels.iter_mut() {
+        *level = kept(*level, depth);
     }
 }

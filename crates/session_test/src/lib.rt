@@ -1,7 +1,6 @@
 #![tactic(auto)]
 // Refusal 20: the session is not the one that a fresh session has after a move to its node, but for an open question.
 ghost use Rattle.std.specs.Prelude.{◌≡◌};
-ghost use Rattle.basics.specs.Text.{same};
 ghost use Rattle.book.specs.Decode.{program};
 ghost use Rattle.book_test.specs.Promise.{Promise};
 ghost use Rattle.solvers.specs.Calls.{goal_fits, is_session};
@@ -9,7 +8,7 @@ ghost use Rattle.solvers.specs.Calls.{goal_fits, is_session};
 use book::count;
 use book::format::{CONTEXTS, TERMS};
 use engine::{ROOT, set_context};
-use session_levels::{Level, blank, same};
+use session_levels::{blank, same};
 use solvers::{Owed, Session};
 
 // The goal where no question is open.
@@ -20,17 +19,8 @@ fn goal_fits(owed: Owed, goal: usize, terms: usize) -> bool
 {
     match owed {
         Owed::Nothing => goal == NO_GOAL,
-        Owed::Reply => goal < terms,
-        Owed::Model => goal < terms,
+        Owed::Reply | Owed::Model => goal < terms,
     }
-}
-
-// In a function of its own, since behind a branch the length of a struct's array is not known.
-fn same_levels(s: Session, levels: &[Level]) -> bool
-    ensures { result ≡ same s.levels levels.now }
-{
-    let stored = s.levels;
-    same(&stored, levels)
 }
 
 pub fn is_session(book: &[u8], s: Session) -> bool
@@ -41,15 +31,11 @@ pub fn is_session(book: &[u8], s: Session) -> bool
     if count(book, CONTEXTS) < node {
         return false;
     }
-    let owed = s.owed;
-    if !goal_fits(owed, s.goal as usize, count(book, TERMS)) {
+    if !goal_fits(s.owed, s.goal as usize, count(book, TERMS)) {
         return false;
     }
     let mut levels = blank();
     let mut nowhere = [0; 0];
     let done = set_context(book, ROOT, node, &mut levels, &mut nowhere);
-    if done.missing {
-        return false;
-    }
-    same_levels(s, &levels)
+    !done.missing && same(&s.levels, &levels)
 }

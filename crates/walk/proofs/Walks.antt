@@ -86,9 +86,6 @@ module _ {b : Book} {n : ℕ} {ls ls' : List ℕ} {so r : Progress} {o o' : List
   unfolding function_step
   function_fewer k d = did_fewer y (then_f (types_fall (counts (program b)) _) (then_f (type_falls (counts (program b)) _) (function_falls (counts (program b)) _))) d
 
-pub ranged_long : {b : Book} {start count : ℕ} {set set' : List ℕ} → Ranged b start count set set' → length set ≡ set_size → length set' ≡ set_size
-ranged_long {set = set} r l = (r.ranges (listed set constants.most) (excludes_listed set l)).long
-
 -- ---- a term, by its kind
 module _ {b : Book} (P : Promise b) {t : ℕ} (here : t < size b terms) {k : ℕ} (kind : k ≡ field b terms t 0) where
   pub walked_none : (k ≤ 1) → (set : List ℕ) (n : ℕ) (ls : List ℕ) (so : Progress) (o : List ℕ) → so.at < MOST + 1 → Walked (symbols_step b t) set n ls ls so o o so

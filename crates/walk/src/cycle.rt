@@ -1,20 +1,18 @@
 // DeclareNewSymbols: the cycle of calls. What falls is one number, of undeclared axioms and the term's number.
-ghost use Rattle.std.specs.Prelude.{◌≡◌, ◌+◌, ◌<◌, length, get_or};
+ghost use Rattle.std.specs.Prelude.{◌≡◌, ◌+◌, ◌<◌, get_or};
 ghost use Rattle.book.specs.Book.{functions, axioms, terms, size};
 ghost use Rattle.book_test.specs.Promise.{Range, GoodPatterns};
 ghost use Rattle.rsolver.specs.LevelState.{axiom_places};
 ghost use Rattle.levels.specs.Did.{Ready};
-ghost use Rattle.excluded.specs.Excluded.{set_size};
 ghost use Rattle.walk.specs.Walk.{symbols_step, terms_step, patterns_step, operator_step, axioms_step, axiom_step, sent_axiom_step, Walked, Included, NewSymbols};
 
-use super::leaves::{
-    all_explained, declare_id, declare_type_of, declare_variables, exclude_variables,
-};
+use super::leaves::{all_explained, declare_id, declare_variables, exclude_variables};
 use book::field;
 use book::format::*;
-use excluded::{SIZE, nothing, with};
+use excluded::Excluded;
 use levels::{
-    AXIOM_PLACES, FUNCTION_PLACES, Level, Progress, declare_function, declared_count, mark,
+    AXIOM_PLACES, FUNCTION_PLACES, Level, Progress, declare_function, declare_type_of,
+    declared_count, mark,
 };
 use literals::declare_literal;
 use smt_engines::assume;
@@ -24,14 +22,14 @@ use smt_engines::assume;
 fn walk_term(
     book: &[u8],
     t: usize,
-    exclude: &[u8; SIZE],
+    exclude: &Excluded,
     level: Level,
     levels: &mut [Level],
     so: Progress,
     out: &mut [u8],
 ) -> Progress
-    requires { Ready book.now level levels.old × (t < size book.now terms) × (length exclude.now ≡ set_size) }
-    ensures { Walked (symbols_step book.now t) exclude.now level levels.old levels.new so out.old out.new result }
+    requires { Ready book.now level levels.old × (t < size book.now terms) }
+    ensures { Walked (symbols_step book.now t) exclude.now.bits level levels.old levels.new so out.old out.new result }
 {
     match field(book, TERMS, t, KIND) {
         BOOLEAN..=INTEGER => so,
@@ -66,7 +64,7 @@ fn walk_term(
             let rhs = field(book, TERMS, t, LET_RHS);
             let two = walk_term(book, rhs, exclude, level, levels, one, out);
             let body = field(book, TERMS, t, LET_BODY);
-            let more = with(exclude, v);
+            let more = exclude.with(v);
             walk_term(book, body, &more, level, levels, two, out)
         }
         _ => {
@@ -88,21 +86,19 @@ fn walk_terms(
     limit: usize,
     start: usize,
     count: usize,
-    exclude: &[u8; SIZE],
+    exclude: &Excluded,
     level: Level,
     levels: &mut [Level],
     so: Progress,
     out: &mut [u8],
 ) -> Progress
-    requires { Ready book.now level levels.old × (limit < size book.now terms) × Range book.now limit start count × (length exclude.now ≡ set_size) }
-    ensures { Walked (terms_step book.now start count) exclude.now level levels.old levels.new so out.old out.new result }
+    requires { Ready book.now level levels.old × (limit < size book.now terms) × Range book.now limit start count }
+    ensures { Walked (terms_step book.now start count) exclude.now.bits level levels.old levels.new so out.old out.new result }
 {
     let mut done = so;
-    let mut i = 0;
-    while i < count {
+    for i in 0..count {
         let t = field(book, LISTS, start + i, LISTED);
         done = walk_term(book, t, exclude, level, levels, done, out);
-        i += 1;
     }
     done
 }
@@ -114,23 +110,21 @@ fn walk_patterns(
     limit: usize,
     start: usize,
     count: usize,
-    exclude: &[u8; SIZE],
+    exclude: &Excluded,
     level: Level,
     levels: &mut [Level],
     so: Progress,
     out: &mut [u8],
 ) -> Progress
-    requires { Ready book.now level levels.old × (limit < size book.now terms) × GoodPatterns book.now limit start count × (length exclude.now ≡ set_size) }
-    ensures { Walked (patterns_step book.now start count) exclude.now level levels.old levels.new so out.old out.new result }
+    requires { Ready book.now level levels.old × (limit < size book.now terms) × GoodPatterns book.now limit start count }
+    ensures { Walked (patterns_step book.now start count) exclude.now.bits level levels.old levels.new so out.old out.new result }
 {
     let mut done = so;
-    let mut i = 0;
-    while i < count {
+    for i in 0..count {
         let p = field(book, LISTS, start + i, LISTED);
         let first = field(book, PATTERNS, p, PATTERN_TERMS);
         let many = field(book, PATTERNS, p, PATTERN_COUNT);
         done = walk_terms(book, limit, first, many, exclude, level, levels, done, out);
-        i += 1;
     }
     done
 }
@@ -173,11 +167,9 @@ fn walk_axioms(
     ensures { Included (axioms_step book.now start count) level levels.old levels.new so out.old out.new result }
 {
     let mut done = so;
-    let mut i = 0;
-    while i < count {
+    for i in 0..count {
         let k = field(book, LISTS, start + i, LISTED);
         done = walk_axiom(book, k, level, levels, done, out);
-        i += 1;
     }
     done
 }
@@ -197,18 +189,13 @@ fn walk_axiom(
 {
     let cond = field(book, AXIOMS, k, AXIOM_TERM);
     if cond == NO_TERM {
-        let at = so.at;
         return Progress {
-            at: at,
             missing: true,
+            ..so
         };
     }
-    if levels[AXIOM_PLACES + k] == 0 {
-        if all_explained(book, k, levels) {
-            send_axiom(book, k, cond, level, levels, so, out)
-        } else {
-            so
-        }
+    if levels[AXIOM_PLACES + k] == 0 && all_explained(book, k, levels) {
+        send_axiom(book, k, cond, level, levels, so, out)
     } else {
         so
     }
@@ -229,16 +216,11 @@ fn send_axiom(
     ensures { Included (sent_axiom_step book.now k cond) level levels.old levels.new so out.old out.new result }
 {
     mark(AXIOM_PLACES + k, level, levels);
-    let none = nothing();
+    let none = Excluded::nothing();
     let done = walk_term(book, cond, &none, level, levels, so, out);
     let tag = declared_count(levels);
-    let at = done.at;
-    let missing = done.missing;
-    let n = assume(book, cond, tag, at, out);
-    Progress {
-        at: n,
-        missing: missing,
-    }
+    let at = assume(book, cond, tag, done.at, out);
+    Progress { at, ..done }
 }
 
 // DeclareNewSymbols of term t.
@@ -253,6 +235,6 @@ pub fn declare_new_symbols(
     requires { Ready book.now level levels.old × (t < size book.now terms) }
     ensures { NewSymbols book.now t level levels.old levels.new so out.old out.new result }
 {
-    let none = nothing();
+    let none = Excluded::nothing();
     walk_term(book, t, &none, level, levels, so, out)
 }

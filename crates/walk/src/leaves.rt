@@ -4,55 +4,35 @@ ghost use Rattle.book.specs.Book.{constants, axioms, terms, size, field};
 ghost use Rattle.book_test.specs.Promise.{Promise, GoodQuantifier};
 ghost use Rattle.rsolver.specs.LevelState.{level_count};
 ghost use Rattle.levels.specs.Did.{Ready, Did};
-ghost use Rattle.levels.specs.Types.{type_step, constant_types_step};
-ghost use Rattle.excluded.specs.Excluded.{set_size, Ranged};
+ghost use Rattle.levels.specs.Types.{constant_types_step};
+ghost use Rattle.excluded.specs.Excluded.{Ranged};
 ghost use Rattle.walk.specs.Walk.{id_step, all_explained, Walked};
 
 use book::field;
 use book::format::*;
-use excluded::{SIZE, has, with_constants};
+use excluded::Excluded;
 use levels::{
     CONSTANT_PLACES, FUNCTION_PLACES, Level, Progress, declare_constant, declare_constant_types,
-    declare_new_types,
 };
 
 // An Id: constant v.
 pub fn declare_id(
     book: &[u8],
     v: usize,
-    exclude: &[u8; SIZE],
-    level: Level,
-    levels: &mut [Level],
-    so: Progress,
-    out: &mut [u8],
-) -> Progress
-    requires { Ready book.now level levels.old × (v < size book.now constants) × (length exclude.now ≡ set_size) }
-    ensures { Walked (id_step book.now v) exclude.now level levels.old levels.new so out.old out.new result }
-{
-    if has(exclude, v) {
-        return so;
-    }
-    if levels[CONSTANT_PLACES + v] == 0 {
-        declare_constant(book, v, level, levels, so, out)
-    } else {
-        so
-    }
-}
-
-// The type of constant v.
-pub fn declare_type_of(
-    book: &[u8],
-    v: usize,
+    exclude: &Excluded,
     level: Level,
     levels: &mut [Level],
     so: Progress,
     out: &mut [u8],
 ) -> Progress
     requires { Ready book.now level levels.old × (v < size book.now constants) }
-    ensures { Did (type_step book.now (field book.now constants v 1)) level levels.old levels.new so out.old out.new result }
+    ensures { Walked (id_step book.now v) exclude.now.bits level levels.old levels.new so out.old out.new result }
 {
-    let typ = field(book, CONSTANTS, v, CONSTANT_TYPE);
-    declare_new_types(book, typ, level, levels, so, out)
+    if exclude.has(v) || levels[CONSTANT_PLACES + v] != 0 {
+        so
+    } else {
+        declare_constant(book, v, level, levels, so, out)
+    }
 }
 
 // The types of the variables of quantifier t.
@@ -73,13 +53,13 @@ pub fn declare_variables(
 }
 
 // The exclusions with the variables of quantifier t.
-pub fn exclude_variables(book: &[u8], t: usize, exclude: &[u8; SIZE]) -> [u8; SIZE]
-    requires { Promise book.now × (t < size book.now terms) × GoodQuantifier book.now t × (length exclude.now ≡ set_size) }
-    ensures { Ranged book.now (field book.now terms t 2) (field book.now terms t 3) exclude.now result }
+pub fn exclude_variables(book: &[u8], t: usize, exclude: &Excluded) -> Excluded
+    requires { Promise book.now × (t < size book.now terms) × GoodQuantifier book.now t }
+    ensures { Ranged book.now (field book.now terms t 2) (field book.now terms t 3) exclude.now.bits result.bits }
 {
     let start = field(book, TERMS, t, QUANTIFIER_CONSTANTS);
     let count = field(book, TERMS, t, QUANTIFIER_CONSTANTS + 1);
-    with_constants(book, start, count, exclude)
+    exclude.with_constants(book, start, count)
 }
 
 // All functions that axiom k explains are declared.
@@ -89,13 +69,11 @@ pub fn all_explained(book: &[u8], k: usize, levels: &[Level]) -> bool
 {
     let start = field(book, AXIOMS, k, AXIOM_EXPLAINS);
     let count = field(book, AXIOMS, k, AXIOM_EXPLAINS + 1);
-    let mut i = 0;
-    while i < count {
+    for i in 0..count {
         let f = field(book, LISTS, start + i, LISTED);
         if levels[FUNCTION_PLACES + f] == 0 {
             return false;
         }
-        i += 1;
     }
     true
 }

@@ -1,8 +1,6 @@
-use Rattle.literals.proofs.Searching.{named_by}
+use mathlib.Core.Path.{◌∙◌}
+use Rattle.literals.proofs.Searching.{answered, named_by}
 use Rattle.literals.proofs.is_declared.Goals as goal
 
-pub find_literal-requires : goal.find_literal-requires
-find_literal-requires c = c.requires
-
 pub returns : goal.returns
-returns c = named_by _ _ _ c.is_found.ensures c.find_literal.ensures
+returns c = named_by _ _ _ (c.is_some.ensures ∙ answered c.find_literal.result.found) c.find_literal.ensures

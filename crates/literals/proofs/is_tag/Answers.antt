@@ -2,11 +2,7 @@ use Rattle.basics.specs.Text.{Text, same, ascii}
 use Rattle.book.specs.Decode.{literal_of}
 use Rattle.book.specs.RExpr.{is_tag}
 use mathlib.Core.Path.{ap, ◌∙◌}
-use Rattle.records.proofs.Readers.{named_term}
 use Rattle.literals.proofs.is_tag.Goals as goal
-
-pub named-requires : goal.named-requires
-named-requires c = named_term c.requires.0 c.requires.1 c.requires.2.name
 
 pub returns : goal.returns
 unfolding is_tag literal_of

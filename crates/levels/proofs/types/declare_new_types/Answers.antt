@@ -2,9 +2,6 @@ use native.Mathlib.Omega.{arith}
 use Rattle.levels.proofs.Declaring.{type_none, type_some}
 use Rattle.levels.proofs.types.declare_new_types.Goals as goal
 
-pub declare_type-requires : goal.declare_type-requires
-declare_type-requires c = (c.requires.0, omega (arith, c.requires.1))
-
 pub returns-in-0-to-1 : goal.returns-in-0-to-1
 returns-in-0-to-1 c = type_none _ _ (omega arith) (omega (arith, c.well_formed.1.1.1.1.0))
 

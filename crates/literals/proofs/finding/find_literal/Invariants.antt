@@ -1,4 +1,4 @@
-use Prim.Native.Nat.{ℕ, ◌≤◌, ◌<◌, ◌-◌}
+use Prim.Native.Nat.{ℕ, ◌<◌}
 use mathlib.Core.Bool.{false}
 use mathlib.Core.Path.{◌≡◌}
 use Rattle.book.specs.Book.{terms, size}
@@ -8,7 +8,4 @@ use Rattle.literals.proofs.Going.{gone_before}
 use Rattle.literals.proofs.finding.find_literal.Given as goal
 
 abbrev pub invariant-loop-k : goal.invariant-loop-k
-invariant-loop-k l = (l.k ≤ l.all) × (l.all ≡ size l.book terms) × (l.gone ≡ gone_before l.book l.k) × ((j : ℕ) → j < l.k → declares_name l.book (barred l.s l.typ) l.levels j ≡ false)
-
-abbrev pub decreases-loop-k : goal.decreases-loop-k
-decreases-loop-k l = l.all - l.k
+invariant-loop-k l = (l.k-end ≡ size l.book terms) × (l.gone ≡ gone_before l.book l.k) × ((j : ℕ) → j < l.k → declares_name l.book (barred l.s l.typ) l.levels j ≡ false)

@@ -8,114 +8,39 @@ use Rattle.levels.proofs.Steps.{ready_next, did_length}
 use Rattle.excluded.proofs.Sets.{excludes_listed, listed}
 use Rattle.book_test.proofs.TermKinds.{good_literal, good_id, good_built_in, good_application, good_if, good_let, good_quantifier}
 use Rattle.walk.proofs.Shapes.{last_kind}
-use Rattle.walk.proofs.Walks.{term_fewer, terms_fewer, patterns_fewer, operator_fewer, axioms_fewer, type_fewer, variables_fewer, function_fewer, walked_none, walked_literal, walked_id, walked_built_in, walked_application, walked_if, walked_let, walked_quantifier, ranged_long, terms_none, terms_more, patterns_none, patterns_more}
+use Rattle.walk.proofs.Walks.{term_fewer, terms_fewer, patterns_fewer, operator_fewer, axioms_fewer, type_fewer, variables_fewer, function_fewer, walked_none, walked_literal, walked_id, walked_built_in, walked_application, walked_if, walked_let, walked_quantifier, terms_none, terms_more, patterns_none, patterns_more}
 use Rattle.walk.proofs.Axioms.{operator_old, operator_new, axioms_none, axioms_more, axiom_missing, axiom_old, axiom_early, axiom_sent, mark_fewer, sent_axiom}
 use Rattle.walk.proofs.cycle.+walk.Goals as goal
-
-pub send_axiom-overflow_add-k : goal.send_axiom-overflow_add-k
-send_axiom-overflow_add-k t c = omega (arith, c.requires.1, c.requires.0.promise.axioms_laid.few)
-
-pub send_axiom-mark-requires : goal.send_axiom-mark-requires
-send_axiom-mark-requires t c = omega (arith, c.requires.1, c.requires.0.promise.axioms_laid.few, c.requires.0.wide)
+use Rattle.walk.proofs.cycle.+walk.Goals.{walk_axiom-else-levels-k-eq0-via-then-levels-k-eq0+else-all_explained, walk_axiom-else-levels-k-eq0-via-else-levels-k-eq0}
 
 pub send_axiom-walk_term-done-requires : goal.send_axiom-walk_term-done-requires
-send_axiom-walk_term-done-requires t c = (omega (arith, c.decreases, mark_fewer _ c.requires.0 c.requires.1 c.requires.3 c.mark.ensures, c.requires.2, c.requires.0.promise.terms_laid.few), (ready_next c.requires.0 c.mark.auto.levels, c.requires.2, c.nothing-none.ensures.long))
-
-pub send_axiom-assume-n-requires : goal.send_axiom-assume-n-requires
-send_axiom-assume-n-requires t c = (c.requires.0.promise, c.requires.2)
-
-pub send_axiom-shape_of-levels : goal.send_axiom-shape_of-levels
-send_axiom-shape_of-levels t c = c.walk_term-done.auto.levels ∙ c.mark.auto.levels
-
-pub send_axiom-shape_of-out : goal.send_axiom-shape_of-out
-send_axiom-shape_of-out t c = c.assume-n.auto.out ∙ c.walk_term-done.auto.out
+send_axiom-walk_term-done-requires t c = (omega (arith, c.decreases, mark_fewer _ c.requires.0 c.requires.1 c.requires.3 c.mark.ensures, c.requires.2, c.requires.0.promise.terms_laid.few), (ready_next c.requires.0 c.mark.auto.levels, c.requires.2))
 
 pub send_axiom-returns : goal.send_axiom-returns
-send_axiom-returns t c = sent_axiom _ c.requires.0 c.requires.1 c.requires.3 c.mark.ensures _ c.well_formed.1.1.1.1.1.1.0.0 (omega (arith, c.well_formed.1.1.1.1.1.0)) c.mark.auto.levels c.nothing-none.ensures c.walk_term-done.ensures c.declared_count-tag.ensures c.assume-n.ensures refl
-
-pub walk_axiom-field-cond-requires : goal.walk_axiom-field-cond-requires
-walk_axiom-field-cond-requires t c = reads_axiom c.requires.0.promise 0 (omega arith) c.requires.1
+send_axiom-returns t c = sent_axiom _ c.requires.0 c.requires.1 c.requires.3 c.mark.ensures _ c.well_formed.1.1.1.1.1.1.0.0 (omega (arith, c.well_formed.1.1.1.1.1.0)) c.mark.auto.levels c.nothing-none.ensures c.walk_term-done.ensures c.declared_count-tag.ensures c.assume-at.ensures refl
 
 pub walk_axiom-returns-then-cond-eq-NO_TERM : goal.walk_axiom-returns-then-cond-eq-NO_TERM
 walk_axiom-returns-then-cond-eq-NO_TERM t c = axiom_missing _ c.requires.1 c.field-cond.ensures.is _ c.if-cond-eq-NO_TERM.true refl refl (omega (arith, c.well_formed.1.1.1.1.0))
 
-pub walk_axiom-overflow_add-k : goal.walk_axiom-overflow_add-k
-walk_axiom-overflow_add-k t c = omega (arith, c.requires.1, c.requires.0.promise.axioms_laid.few)
-
-pub walk_axiom-bounds-levels-k : goal.walk_axiom-bounds-levels-k
-walk_axiom-bounds-levels-k t c = omega (arith, c.requires.1, c.requires.0.promise.axioms_laid.few, c.requires.0.wide)
-
-pub walk_axiom-all_explained-requires : goal.walk_axiom-all_explained-requires
-walk_axiom-all_explained-requires t c = (c.requires.0.promise, c.requires.1, c.requires.0.wide)
-
-pub walk_axiom-send_axiom-requires : goal.walk_axiom-send_axiom-requires
-walk_axiom-send_axiom-requires t c = (omega (arith, c.decreases), (c.requires.0, c.requires.1, rw c.field-cond.ensures.is ((c.requires.0.promise.axiom' _ c.requires.1).term (λ e. c.if-cond-eq-NO_TERM.false (c.field-cond.ensures.is ∙ e))), c.if-levels-k-eq0.true))
-
 pub walk_axiom-returns-then-all_explained : goal.walk_axiom-returns-then-all_explained
 walk_axiom-returns-then-all_explained t c = axiom_sent _ c.requires.1 c.field-cond.ensures.is c.if-cond-eq-NO_TERM.false c.if-levels-k-eq0.true c.all_explained.ensures c.if-all_explained.true c.send_axiom.ensures
 
-pub walk_axiom-returns-else-all_explained : goal.walk_axiom-returns-else-all_explained
-walk_axiom-returns-else-all_explained t c = axiom_early _ c.requires.1 c.field-cond.ensures.is c.if-cond-eq-NO_TERM.false _ _ _ _ c.if-levels-k-eq0.true c.all_explained.ensures c.if-all_explained.false (omega (arith, c.well_formed.1.1.1.1.0))
-
 pub walk_axiom-returns-else-levels-k-eq0 : goal.walk_axiom-returns-else-levels-k-eq0
-walk_axiom-returns-else-levels-k-eq0 t c = axiom_old _ c.requires.1 c.field-cond.ensures.is c.if-cond-eq-NO_TERM.false _ _ _ _ c.if-levels-k-eq0.false (omega (arith, c.well_formed.1.1.1.1.0))
+walk_axiom-returns-else-levels-k-eq0 t c = elim c.else-levels-k-eq0.branch [
+  walk_axiom-else-levels-k-eq0-via-then-levels-k-eq0+else-all_explained w ↦ axiom_early _ c.requires.1 c.field-cond.ensures.is c.if-cond-eq-NO_TERM.false _ _ _ _ w.if-levels-k-eq0.true w.all_explained.ensures w.if-all_explained.false (omega (arith, c.well_formed.1.1.1.1.0))
+  | walk_axiom-else-levels-k-eq0-via-else-levels-k-eq0 w ↦ axiom_old _ c.requires.1 c.field-cond.ensures.is c.if-cond-eq-NO_TERM.false _ _ _ _ w.if-levels-k-eq0.false (omega (arith, c.well_formed.1.1.1.1.0)) ]
 
 pub walk_axioms-loop-i-init : goal.walk_axioms-loop-i-init
-walk_axioms-loop-i-init t c = (omega arith, axioms_none _ _ _ _ _ _ (omega (arith, c.well_formed.1.1.1.1.1.0)), refl)
-
-pub walk_axioms-overflow_add-start : goal.walk_axioms-overflow_add-start
-walk_axioms-overflow_add-start t c = omega (arith, c.requires.1.ends, c.requires.0.promise.lists_laid.few)
-
-pub walk_axioms-field-k-requires : goal.walk_axioms-field-k-requires
-walk_axioms-field-k-requires t c = reads_list c.requires.0.promise (omega (arith, c.requires.1.ends))
+walk_axioms-loop-i-init t c = (axioms_none _ _ _ _ _ _ (omega (arith, c.well_formed.1.1.1.1.1.0)), refl)
 
 pub walk_axioms-walk_axiom-done-requires : goal.walk_axioms-walk_axiom-done-requires
-walk_axioms-walk_axiom-done-requires t c = (omega (arith, c.decreases, axioms_fewer c.requires.0 _ _ c.loop-i.invariant.1), (ready_next c.requires.0 c.loop-i.invariant.2, rw c.field-k.ensures.is (c.requires.1.below c.loop-i.i (omega arith))))
-
-pub walk_axioms-overflow_add-i : goal.walk_axioms-overflow_add-i
-walk_axioms-overflow_add-i t c = omega (arith, c.requires.1.ends, c.requires.0.promise.lists_laid.few)
-
-pub walk_axioms-loop-i-smaller : goal.walk_axioms-loop-i-smaller
-walk_axioms-loop-i-smaller t c = omega arith
+walk_axioms-walk_axiom-done-requires t c = (omega (arith, c.decreases, axioms_fewer c.requires.0 _ _ c.loop-i.invariant.0), (ready_next c.requires.0 c.loop-i.invariant.1, rw c.field-k.ensures.is (c.requires.1.below c.loop-i.i (omega arith))))
 
 pub walk_axioms-loop-i-preserved : goal.walk_axioms-loop-i-preserved
-walk_axioms-loop-i-preserved t c = (omega arith, axioms_more _ _ _ c.well_formed.1.1.1.1.1.1.0.0 c.loop-i.invariant.1 c.field-k.ensures.is c.walk_axiom-done.ensures, c.walk_axiom-done.auto.levels ∙ c.loop-i.invariant.2)
-
-pub walk_axioms-shape_of-levels : goal.walk_axioms-shape_of-levels
-walk_axioms-shape_of-levels t c = c.loop-i.invariant.2
-
-pub walk_axioms-shape_of-out : goal.walk_axioms-shape_of-out
-walk_axioms-shape_of-out t c = did_length (c.loop-i.invariant.1.did [])
-
-pub walk_axioms-returns : goal.walk_axioms-returns
-walk_axioms-returns t c = let e : c.loop-i.i ≡ c.args.count = omega arith in rw e at c.loop-i.invariant.1
-
-pub walk_operator-overflow_add-k : goal.walk_operator-overflow_add-k
-walk_operator-overflow_add-k t c = omega (arith, c.requires.1, c.requires.0.promise.functions_laid.few)
-
-pub walk_operator-bounds-levels-k : goal.walk_operator-bounds-levels-k
-walk_operator-bounds-levels-k t c = omega (arith, c.requires.1, c.requires.0.promise.functions_laid.few, c.requires.0.wide)
-
-pub walk_operator-declare_function-done-requires : goal.walk_operator-declare_function-done-requires
-walk_operator-declare_function-done-requires t c = (c.requires.0, c.requires.1)
-
-pub walk_operator-field-start-requires : goal.walk_operator-field-start-requires
-walk_operator-field-start-requires t c = reads_function c.requires.0.promise 4 (omega arith) c.requires.1
-
-pub walk_operator-overflow_add-field : goal.walk_operator-overflow_add-field
-walk_operator-overflow_add-field t c = omega arith
-
-pub walk_operator-field-count-requires : goal.walk_operator-field-count-requires
-walk_operator-field-count-requires t c = reads_function c.requires.0.promise 5 (omega arith) c.requires.1
+walk_axioms-loop-i-preserved t c = (axioms_more _ _ _ c.well_formed.1.1.1.1.1.1.0.0 c.loop-i.invariant.0 c.field-k.ensures.is c.walk_axiom-done.ensures, c.walk_axiom-done.auto.levels ∙ c.loop-i.invariant.1)
 
 pub walk_operator-walk_axioms-requires : goal.walk_operator-walk_axioms-requires
 walk_operator-walk_axioms-requires t c = (omega (arith, c.decreases, function_fewer c.requires.0 _ c.declare_function-done.ensures), (ready_next c.requires.0 c.declare_function-done.auto.levels, rw (c.field-start.ensures.is, c.field-count.ensures.is) (c.requires.0.promise.function _ c.requires.1).explained_by))
-
-pub walk_operator-shape_of-levels : goal.walk_operator-shape_of-levels
-walk_operator-shape_of-levels t c = c.walk_axioms.auto.levels ∙ c.declare_function-done.auto.levels
-
-pub walk_operator-shape_of-out : goal.walk_operator-shape_of-out
-walk_operator-shape_of-out t c = c.walk_axioms.auto.out ∙ c.declare_function-done.auto.out
 
 pub walk_operator-returns-then-levels-k-eq0 : goal.walk_operator-returns-then-levels-k-eq0
 walk_operator-returns-then-levels-k-eq0 t c = operator_new _ _ c.well_formed.1.1.1.1.1.0.0 c.if-levels-k-eq0.true c.declare_function-done.ensures c.field-start.ensures.is c.field-count.ensures.is c.walk_axioms.ensures
@@ -124,136 +49,61 @@ pub walk_operator-returns-else-levels-k-eq0 : goal.walk_operator-returns-else-le
 walk_operator-returns-else-levels-k-eq0 t c = operator_old _ _ _ _ _ _ c.if-levels-k-eq0.false (omega (arith, c.well_formed.1.1.1.1.0))
 
 pub walk_patterns-loop-i-init : goal.walk_patterns-loop-i-init
-walk_patterns-loop-i-init t c = (omega arith, patterns_none _ _ _ _ _ _ _ (omega (arith, c.well_formed.1.1.1.1.1.1.1.0)), refl)
-
-pub walk_patterns-overflow_add-start : goal.walk_patterns-overflow_add-start
-walk_patterns-overflow_add-start t c = omega (arith, c.requires.2.ends, c.requires.0.promise.lists_laid.few)
-
-pub walk_patterns-field-p-requires : goal.walk_patterns-field-p-requires
-walk_patterns-field-p-requires t c = reads_list c.requires.0.promise (omega (arith, c.requires.2.ends))
-
-pub walk_patterns-field-first-requires : goal.walk_patterns-field-first-requires
-walk_patterns-field-first-requires t c = reads_pattern c.requires.0.promise 0 (omega arith) (rw c.field-p.ensures.is (c.requires.2.each c.loop-i.i (omega arith)).here)
-
-pub walk_patterns-field-many-requires : goal.walk_patterns-field-many-requires
-walk_patterns-field-many-requires t c = reads_pattern c.requires.0.promise 1 (omega arith) (rw c.field-p.ensures.is (c.requires.2.each c.loop-i.i (omega arith)).here)
+walk_patterns-loop-i-init t c = (patterns_none _ _ _ _ _ _ _ (omega (arith, c.well_formed.1.1.1.1.1.1.1.0)), refl)
 
 pub walk_patterns-walk_terms-done-requires : goal.walk_patterns-walk_terms-done-requires
-walk_patterns-walk_terms-done-requires t c = (omega (arith, c.decreases, patterns_fewer c.requires.0 _ _ c.requires.3 c.loop-i.invariant.1), (ready_next c.requires.0 c.loop-i.invariant.2, c.requires.1, rw (c.field-first.ensures.is, c.field-many.ensures.is, c.field-p.ensures.is) (c.requires.2.each c.loop-i.i (omega arith)).range, c.requires.3))
-
-pub walk_patterns-overflow_add-i : goal.walk_patterns-overflow_add-i
-walk_patterns-overflow_add-i t c = omega (arith, c.requires.2.ends, c.requires.0.promise.lists_laid.few)
-
-pub walk_patterns-loop-i-smaller : goal.walk_patterns-loop-i-smaller
-walk_patterns-loop-i-smaller t c = omega arith
+walk_patterns-walk_terms-done-requires t c = (omega (arith, c.decreases, patterns_fewer c.requires.0 _ _ c.args.exclude.now.long c.loop-i.invariant.0), (ready_next c.requires.0 c.loop-i.invariant.1, c.requires.1, rw (c.field-first.ensures.is, c.field-many.ensures.is, c.field-p.ensures.is) (c.requires.2.each c.loop-i.i (omega arith)).range))
 
 pub walk_patterns-loop-i-preserved : goal.walk_patterns-loop-i-preserved
-walk_patterns-loop-i-preserved t c = (omega arith, patterns_more _ _ _ c.well_formed.1.1.1.1.1.1.1.1.0.0 c.loop-i.invariant.1 c.field-p.ensures.is c.field-first.ensures.is c.field-many.ensures.is c.walk_terms-done.ensures, c.walk_terms-done.auto.levels ∙ c.loop-i.invariant.2)
-
-pub walk_patterns-shape_of-levels : goal.walk_patterns-shape_of-levels
-walk_patterns-shape_of-levels t c = c.loop-i.invariant.2
-
-pub walk_patterns-shape_of-out : goal.walk_patterns-shape_of-out
-walk_patterns-shape_of-out t c = did_length (c.loop-i.invariant.1.did (listed _ constants.most) (excludes_listed _ c.requires.3))
-
-pub walk_patterns-returns : goal.walk_patterns-returns
-walk_patterns-returns t c = let e : c.loop-i.i ≡ c.args.count = omega arith in rw e at c.loop-i.invariant.1
-
-pub walk_term-field-requires : goal.walk_term-field-requires
-walk_term-field-requires t c = reads_term c.requires.0.promise 0 (omega arith) c.requires.1
+walk_patterns-loop-i-preserved t c = (patterns_more _ _ _ c.well_formed.1.1.1.1.1.1.1.1.0.0 c.loop-i.invariant.0 c.field-p.ensures.is c.field-first.ensures.is c.field-many.ensures.is c.walk_terms-done.ensures, c.walk_terms-done.auto.levels ∙ c.loop-i.invariant.1)
 
 pub walk_term-declare_literal-requires : goal.walk_term-declare_literal-requires
 walk_term-declare_literal-requires t c = (c.requires.0, c.requires.1, good_literal c.requires.0.promise c.requires.1 c.field.ensures.is c.in-2.is)
 
-pub walk_term-field-v-requires : goal.walk_term-field-v-requires
-walk_term-field-v-requires t c = reads_term c.requires.0.promise 1 (omega arith) c.requires.1
-
 pub walk_term-declare_id-requires : goal.walk_term-declare_id-requires
-walk_term-declare_id-requires t c = (c.requires.0, rw c.field-v.ensures.is (good_id c.requires.0.promise c.requires.1 c.field.ensures.is c.in-3.is), c.requires.2)
-
-pub walk_term-field-start-requires : goal.walk_term-field-start-requires
-walk_term-field-start-requires t c = reads_term c.requires.0.promise 2 (omega arith) c.requires.1
-
-pub walk_term-field-count-requires : goal.walk_term-field-count-requires
-walk_term-field-count-requires t c = reads_term c.requires.0.promise 3 (omega arith) c.requires.1
+walk_term-declare_id-requires t c = (c.requires.0, rw c.field-v.ensures.is (good_id c.requires.0.promise c.requires.1 c.field.ensures.is c.in-3.is))
 
 pub walk_term-walk_terms-requires : goal.walk_term-walk_terms-requires
-walk_term-walk_terms-requires t c = (omega (arith, c.decreases), (c.requires.0, c.requires.1, rw (c.field-start.ensures.is, c.field-count.ensures.is) (good_built_in c.requires.0.promise c.requires.1 c.field.ensures.is c.in-4.is).args, c.requires.2))
-
-pub walk_term-field-f-requires : goal.walk_term-field-f-requires
-walk_term-field-f-requires t c = reads_term c.requires.0.promise 1 (omega arith) c.requires.1
+walk_term-walk_terms-requires t c = (omega (arith, c.decreases), (c.requires.0, c.requires.1, rw (c.field-start.ensures.is, c.field-count.ensures.is) (good_built_in c.requires.0.promise c.requires.1 c.field.ensures.is c.in-4.is).args))
 
 pub walk_term-walk_operator-done-requires : goal.walk_term-walk_operator-done-requires
 walk_term-walk_operator-done-requires t c = (omega (arith, c.decreases), (c.requires.0, rw c.field-f.ensures.is (good_application c.requires.0.promise c.requires.1 c.field.ensures.is c.in-5.is).function))
 
-pub walk_term-field-start-requires-in-5 : goal.walk_term-field-start-requires-in-5
-walk_term-field-start-requires-in-5 t c = reads_term c.requires.0.promise 2 (omega arith) c.requires.1
-
-pub walk_term-field-count-requires-in-5 : goal.walk_term-field-count-requires-in-5
-walk_term-field-count-requires-in-5 t c = reads_term c.requires.0.promise 3 (omega arith) c.requires.1
-
 pub walk_term-walk_terms-requires-in-5 : goal.walk_term-walk_terms-requires-in-5
-walk_term-walk_terms-requires-in-5 t c = (omega (arith, c.decreases, operator_fewer c.requires.0 _ c.walk_operator-done.ensures), (ready_next c.requires.0 c.walk_operator-done.auto.levels, c.requires.1, rw (c.field-start-in-5.ensures.is, c.field-count-in-5.ensures.is) (good_application c.requires.0.promise c.requires.1 c.field.ensures.is c.in-5.is).args, c.requires.2))
-
-pub walk_term-field-guard-requires : goal.walk_term-field-guard-requires
-walk_term-field-guard-requires t c = reads_term c.requires.0.promise 1 (omega arith) c.requires.1
+walk_term-walk_terms-requires-in-5 t c = (omega (arith, c.decreases, operator_fewer c.requires.0 _ c.walk_operator-done.ensures), (ready_next c.requires.0 c.walk_operator-done.auto.levels, c.requires.1, rw (c.field-start-in-5.ensures.is, c.field-count-in-5.ensures.is) (good_application c.requires.0.promise c.requires.1 c.field.ensures.is c.in-5.is).args))
 
 pub walk_term-walk_term-one-requires : goal.walk_term-walk_term-one-requires
-walk_term-walk_term-one-requires t c = (omega (arith, c.decreases, c.field-guard.ensures.is, (good_if c.requires.0.promise c.requires.1 c.field.ensures.is c.in-6.is).guard), (c.requires.0, omega (arith, c.field-guard.ensures.is, (good_if c.requires.0.promise c.requires.1 c.field.ensures.is c.in-6.is).guard, c.requires.1), c.requires.2))
-
-pub walk_term-field-thn-requires : goal.walk_term-field-thn-requires
-walk_term-field-thn-requires t c = reads_term c.requires.0.promise 2 (omega arith) c.requires.1
+walk_term-walk_term-one-requires t c = (omega (arith, c.decreases, c.field-guard.ensures.is, (good_if c.requires.0.promise c.requires.1 c.field.ensures.is c.in-6.is).guard), (c.requires.0, omega (arith, c.field-guard.ensures.is, (good_if c.requires.0.promise c.requires.1 c.field.ensures.is c.in-6.is).guard, c.requires.1)))
 
 pub walk_term-walk_term-two-requires : goal.walk_term-walk_term-two-requires
-walk_term-walk_term-two-requires t c = (omega (arith, c.decreases, c.field-thn.ensures.is, (good_if c.requires.0.promise c.requires.1 c.field.ensures.is c.in-6.is).thn, term_fewer c.requires.0 _ c.requires.2 c.walk_term-one.ensures), (ready_next c.requires.0 c.walk_term-one.auto.levels, omega (arith, c.field-thn.ensures.is, (good_if c.requires.0.promise c.requires.1 c.field.ensures.is c.in-6.is).thn, c.requires.1), c.requires.2))
-
-pub walk_term-field-els-requires : goal.walk_term-field-els-requires
-walk_term-field-els-requires t c = reads_term c.requires.0.promise 3 (omega arith) c.requires.1
+walk_term-walk_term-two-requires t c = (omega (arith, c.decreases, c.field-thn.ensures.is, (good_if c.requires.0.promise c.requires.1 c.field.ensures.is c.in-6.is).thn, term_fewer c.requires.0 _ c.args.exclude.now.long c.walk_term-one.ensures), (ready_next c.requires.0 c.walk_term-one.auto.levels, omega (arith, c.field-thn.ensures.is, (good_if c.requires.0.promise c.requires.1 c.field.ensures.is c.in-6.is).thn, c.requires.1)))
 
 pub walk_term-walk_term-requires : goal.walk_term-walk_term-requires
-walk_term-walk_term-requires t c = (omega (arith, c.decreases, c.field-els.ensures.is, (good_if c.requires.0.promise c.requires.1 c.field.ensures.is c.in-6.is).els, term_fewer c.requires.0 _ c.requires.2 c.walk_term-one.ensures, term_fewer (ready_next c.requires.0 c.walk_term-one.auto.levels) _ c.requires.2 c.walk_term-two.ensures), (ready_next c.requires.0 (c.walk_term-two.auto.levels ∙ c.walk_term-one.auto.levels), omega (arith, c.field-els.ensures.is, (good_if c.requires.0.promise c.requires.1 c.field.ensures.is c.in-6.is).els, c.requires.1), c.requires.2))
-
-pub walk_term-field-v-requires-in-7 : goal.walk_term-field-v-requires-in-7
-walk_term-field-v-requires-in-7 t c = reads_term c.requires.0.promise 1 (omega arith) c.requires.1
+walk_term-walk_term-requires t c = (omega (arith, c.decreases, c.field-els.ensures.is, (good_if c.requires.0.promise c.requires.1 c.field.ensures.is c.in-6.is).els, term_fewer c.requires.0 _ c.args.exclude.now.long c.walk_term-one.ensures, term_fewer (ready_next c.requires.0 c.walk_term-one.auto.levels) _ c.args.exclude.now.long c.walk_term-two.ensures), (ready_next c.requires.0 (c.walk_term-two.auto.levels ∙ c.walk_term-one.auto.levels), omega (arith, c.field-els.ensures.is, (good_if c.requires.0.promise c.requires.1 c.field.ensures.is c.in-6.is).els, c.requires.1)))
 
 pub walk_term-declare_type_of-one-requires : goal.walk_term-declare_type_of-one-requires
 walk_term-declare_type_of-one-requires t c = (c.requires.0, rw c.field-v-in-7.ensures.is (good_let c.requires.0.promise c.requires.1 c.field.ensures.is c.in-7.is).v)
 
-pub walk_term-field-rhs-requires : goal.walk_term-field-rhs-requires
-walk_term-field-rhs-requires t c = reads_term c.requires.0.promise 2 (omega arith) c.requires.1
-
 pub walk_term-walk_term-two-requires-in-7 : goal.walk_term-walk_term-two-requires-in-7
-walk_term-walk_term-two-requires-in-7 t c = (omega (arith, c.decreases, c.field-rhs.ensures.is, (good_let c.requires.0.promise c.requires.1 c.field.ensures.is c.in-7.is).rhs, type_fewer c.requires.0 _ c.declare_type_of-one.ensures), (ready_next c.requires.0 c.declare_type_of-one.auto.levels, omega (arith, c.field-rhs.ensures.is, (good_let c.requires.0.promise c.requires.1 c.field.ensures.is c.in-7.is).rhs, c.requires.1), c.requires.2))
-
-pub walk_term-field-body-requires : goal.walk_term-field-body-requires
-walk_term-field-body-requires t c = reads_term c.requires.0.promise 3 (omega arith) c.requires.1
+walk_term-walk_term-two-requires-in-7 t c = (omega (arith, c.decreases, c.field-rhs.ensures.is, (good_let c.requires.0.promise c.requires.1 c.field.ensures.is c.in-7.is).rhs, type_fewer c.requires.0 _ c.declare_type_of-one.ensures), (ready_next c.requires.0 c.declare_type_of-one.auto.levels, omega (arith, c.field-rhs.ensures.is, (good_let c.requires.0.promise c.requires.1 c.field.ensures.is c.in-7.is).rhs, c.requires.1)))
 
 pub walk_term-with-more-requires : goal.walk_term-with-more-requires
-walk_term-with-more-requires t c = (c.requires.2, omega (arith, c.field-v-in-7.ensures.is, (good_let c.requires.0.promise c.requires.1 c.field.ensures.is c.in-7.is).v, c.requires.0.promise.constants_laid.few))
+walk_term-with-more-requires t c = omega (arith, c.field-v-in-7.ensures.is, (good_let c.requires.0.promise c.requires.1 c.field.ensures.is c.in-7.is).v, c.requires.0.promise.constants_laid.few)
 
 pub walk_term-walk_term-requires-in-7 : goal.walk_term-walk_term-requires-in-7
-walk_term-walk_term-requires-in-7 t c = (omega (arith, c.decreases, c.field-body.ensures.is, (good_let c.requires.0.promise c.requires.1 c.field.ensures.is c.in-7.is).body, type_fewer c.requires.0 _ c.declare_type_of-one.ensures, term_fewer (ready_next c.requires.0 c.declare_type_of-one.auto.levels) _ c.requires.2 c.walk_term-two-in-7.ensures), (ready_next c.requires.0 (c.walk_term-two-in-7.auto.levels ∙ c.declare_type_of-one.auto.levels), omega (arith, c.field-body.ensures.is, (good_let c.requires.0.promise c.requires.1 c.field.ensures.is c.in-7.is).body, c.requires.1), c.with-more.ensures.long))
+walk_term-walk_term-requires-in-7 t c = (omega (arith, c.decreases, c.field-body.ensures.is, (good_let c.requires.0.promise c.requires.1 c.field.ensures.is c.in-7.is).body, type_fewer c.requires.0 _ c.declare_type_of-one.ensures, term_fewer (ready_next c.requires.0 c.declare_type_of-one.auto.levels) _ c.args.exclude.now.long c.walk_term-two-in-7.ensures), (ready_next c.requires.0 (c.walk_term-two-in-7.auto.levels ∙ c.declare_type_of-one.auto.levels), omega (arith, c.field-body.ensures.is, (good_let c.requires.0.promise c.requires.1 c.field.ensures.is c.in-7.is).body, c.requires.1)))
 
 pub walk_term-declare_variables-one-requires : goal.walk_term-declare_variables-one-requires
 walk_term-declare_variables-one-requires t c = (c.requires.0, c.requires.1, (good_quantifier c.requires.0.promise c.requires.1 c.field.ensures.is (last_kind c.requires.0.promise c.requires.1 c.field.ensures.is (omega (arith, c.in_default.if-this-lt2-own.false)) c.in_default.in_default-own.rest.0.0.0.0.0.1 c.in_default.in_default-own.rest.0.0.0.0.1 c.in_default.in_default-own.rest.0.0.0.1 c.in_default.in_default-own.rest.0.0.1 c.in_default.in_default-own.rest.0.1 c.in_default.in_default-own.rest.1)))
 
 pub walk_term-exclude_variables-more-requires : goal.walk_term-exclude_variables-more-requires
-walk_term-exclude_variables-more-requires t c = (c.requires.0.promise, c.requires.1, (good_quantifier c.requires.0.promise c.requires.1 c.field.ensures.is (last_kind c.requires.0.promise c.requires.1 c.field.ensures.is (omega (arith, c.in_default.if-this-lt2-own.false)) c.in_default.in_default-own.rest.0.0.0.0.0.1 c.in_default.in_default-own.rest.0.0.0.0.1 c.in_default.in_default-own.rest.0.0.0.1 c.in_default.in_default-own.rest.0.0.1 c.in_default.in_default-own.rest.0.1 c.in_default.in_default-own.rest.1)), c.requires.2)
-
-pub walk_term-field-start-requires-in_default : goal.walk_term-field-start-requires-in_default
-walk_term-field-start-requires-in_default t c = reads_term c.requires.0.promise 4 (omega arith) c.requires.1
-
-pub walk_term-field-count-requires-in_default : goal.walk_term-field-count-requires-in_default
-walk_term-field-count-requires-in_default t c = reads_term c.requires.0.promise 5 (omega arith) c.requires.1
+walk_term-exclude_variables-more-requires t c = (c.requires.0.promise, c.requires.1, (good_quantifier c.requires.0.promise c.requires.1 c.field.ensures.is (last_kind c.requires.0.promise c.requires.1 c.field.ensures.is (omega (arith, c.in_default.if-this-lt2-own.false)) c.in_default.in_default-own.rest.0.0.0.0.0.1 c.in_default.in_default-own.rest.0.0.0.0.1 c.in_default.in_default-own.rest.0.0.0.1 c.in_default.in_default-own.rest.0.0.1 c.in_default.in_default-own.rest.0.1 c.in_default.in_default-own.rest.1)))
 
 pub walk_term-walk_patterns-two-requires : goal.walk_term-walk_patterns-two-requires
-walk_term-walk_patterns-two-requires t c = (omega (arith, c.decreases, variables_fewer c.requires.0 _ _ c.declare_variables-one.ensures), (ready_next c.requires.0 c.declare_variables-one.auto.levels, c.requires.1, rw (c.field-start-in_default.ensures.is, c.field-count-in_default.ensures.is) (good_quantifier c.requires.0.promise c.requires.1 c.field.ensures.is (last_kind c.requires.0.promise c.requires.1 c.field.ensures.is (omega (arith, c.in_default.if-this-lt2-own.false)) c.in_default.in_default-own.rest.0.0.0.0.0.1 c.in_default.in_default-own.rest.0.0.0.0.1 c.in_default.in_default-own.rest.0.0.0.1 c.in_default.in_default-own.rest.0.0.1 c.in_default.in_default-own.rest.0.1 c.in_default.in_default-own.rest.1)).patterns, (ranged_long c.exclude_variables-more.ensures c.requires.2)))
-
-pub walk_term-field-body-requires-in_default : goal.walk_term-field-body-requires-in_default
-walk_term-field-body-requires-in_default t c = reads_term c.requires.0.promise 6 (omega arith) c.requires.1
+walk_term-walk_patterns-two-requires t c = (omega (arith, c.decreases, variables_fewer c.requires.0 _ _ c.declare_variables-one.ensures), (ready_next c.requires.0 c.declare_variables-one.auto.levels, c.requires.1, rw (c.field-start-in_default.ensures.is, c.field-count-in_default.ensures.is) (good_quantifier c.requires.0.promise c.requires.1 c.field.ensures.is (last_kind c.requires.0.promise c.requires.1 c.field.ensures.is (omega (arith, c.in_default.if-this-lt2-own.false)) c.in_default.in_default-own.rest.0.0.0.0.0.1 c.in_default.in_default-own.rest.0.0.0.0.1 c.in_default.in_default-own.rest.0.0.0.1 c.in_default.in_default-own.rest.0.0.1 c.in_default.in_default-own.rest.0.1 c.in_default.in_default-own.rest.1)).patterns))
 
 pub walk_term-walk_term-requires-in_default : goal.walk_term-walk_term-requires-in_default
-walk_term-walk_term-requires-in_default t c = (omega (arith, c.decreases, c.field-body-in_default.ensures.is, (good_quantifier c.requires.0.promise c.requires.1 c.field.ensures.is (last_kind c.requires.0.promise c.requires.1 c.field.ensures.is (omega (arith, c.in_default.if-this-lt2-own.false)) c.in_default.in_default-own.rest.0.0.0.0.0.1 c.in_default.in_default-own.rest.0.0.0.0.1 c.in_default.in_default-own.rest.0.0.0.1 c.in_default.in_default-own.rest.0.0.1 c.in_default.in_default-own.rest.0.1 c.in_default.in_default-own.rest.1)).body, variables_fewer c.requires.0 _ _ c.declare_variables-one.ensures, patterns_fewer (ready_next c.requires.0 c.declare_variables-one.auto.levels) _ _ (ranged_long c.exclude_variables-more.ensures c.requires.2) c.walk_patterns-two.ensures), (ready_next c.requires.0 (c.walk_patterns-two.auto.levels ∙ c.declare_variables-one.auto.levels), omega (arith, c.field-body-in_default.ensures.is, (good_quantifier c.requires.0.promise c.requires.1 c.field.ensures.is (last_kind c.requires.0.promise c.requires.1 c.field.ensures.is (omega (arith, c.in_default.if-this-lt2-own.false)) c.in_default.in_default-own.rest.0.0.0.0.0.1 c.in_default.in_default-own.rest.0.0.0.0.1 c.in_default.in_default-own.rest.0.0.0.1 c.in_default.in_default-own.rest.0.0.1 c.in_default.in_default-own.rest.0.1 c.in_default.in_default-own.rest.1)).body, c.requires.1), (ranged_long c.exclude_variables-more.ensures c.requires.2)))
+walk_term-walk_term-requires-in_default t c = (omega (arith, c.decreases, c.field-body-in_default.ensures.is, (good_quantifier c.requires.0.promise c.requires.1 c.field.ensures.is (last_kind c.requires.0.promise c.requires.1 c.field.ensures.is (omega (arith, c.in_default.if-this-lt2-own.false)) c.in_default.in_default-own.rest.0.0.0.0.0.1 c.in_default.in_default-own.rest.0.0.0.0.1 c.in_default.in_default-own.rest.0.0.0.1 c.in_default.in_default-own.rest.0.0.1 c.in_default.in_default-own.rest.0.1 c.in_default.in_default-own.rest.1)).body, variables_fewer c.requires.0 _ _ c.declare_variables-one.ensures, patterns_fewer (ready_next c.requires.0 c.declare_variables-one.auto.levels) _ _ c.exclude_variables-more.result.long c.walk_patterns-two.ensures), (ready_next c.requires.0 (c.walk_patterns-two.auto.levels ∙ c.declare_variables-one.auto.levels), omega (arith, c.field-body-in_default.ensures.is, (good_quantifier c.requires.0.promise c.requires.1 c.field.ensures.is (last_kind c.requires.0.promise c.requires.1 c.field.ensures.is (omega (arith, c.in_default.if-this-lt2-own.false)) c.in_default.in_default-own.rest.0.0.0.0.0.1 c.in_default.in_default-own.rest.0.0.0.0.1 c.in_default.in_default-own.rest.0.0.0.1 c.in_default.in_default-own.rest.0.0.1 c.in_default.in_default-own.rest.0.1 c.in_default.in_default-own.rest.1)).body, c.requires.1)))
 
 pub walk_term-returns-in-2 : goal.walk_term-returns-in-2
 walk_term-returns-in-2 t c = walked_literal c.requires.0.promise c.requires.1 c.field.ensures.is c.in-2.is c.declare_literal.ensures
@@ -264,29 +114,11 @@ walk_term-returns-in-3 t c = walked_id c.requires.0.promise c.requires.1 c.field
 pub walk_term-returns-in-4 : goal.walk_term-returns-in-4
 walk_term-returns-in-4 t c = walked_built_in c.requires.0.promise c.requires.1 c.field.ensures.is c.in-4.is c.field-start.ensures.is c.field-count.ensures.is c.walk_terms.ensures
 
-pub walk_term-shape_of-levels-in-5 : goal.walk_term-shape_of-levels-in-5
-walk_term-shape_of-levels-in-5 t c = c.walk_terms-in-5.auto.levels ∙ c.walk_operator-done.auto.levels
-
-pub walk_term-shape_of-out-in-5 : goal.walk_term-shape_of-out-in-5
-walk_term-shape_of-out-in-5 t c = c.walk_terms-in-5.auto.out ∙ c.walk_operator-done.auto.out
-
 pub walk_term-returns-in-5 : goal.walk_term-returns-in-5
 walk_term-returns-in-5 t c = walked_application c.requires.0.promise c.requires.1 c.field.ensures.is c.well_formed.1.1.1.1.1.1.0.0 c.in-5.is c.field-f.ensures.is c.field-start-in-5.ensures.is c.field-count-in-5.ensures.is c.walk_operator-done.ensures c.walk_terms-in-5.ensures
 
-pub walk_term-shape_of-levels-in-6 : goal.walk_term-shape_of-levels-in-6
-walk_term-shape_of-levels-in-6 t c = c.walk_term.auto.levels ∙ c.walk_term-two.auto.levels ∙ c.walk_term-one.auto.levels
-
-pub walk_term-shape_of-out-in-6 : goal.walk_term-shape_of-out-in-6
-walk_term-shape_of-out-in-6 t c = c.walk_term.auto.out ∙ c.walk_term-two.auto.out ∙ c.walk_term-one.auto.out
-
 pub walk_term-returns-in-6 : goal.walk_term-returns-in-6
 walk_term-returns-in-6 t c = walked_if c.requires.0.promise c.requires.1 c.field.ensures.is c.well_formed.1.1.1.1.1.1.0.0 c.in-6.is c.field-guard.ensures.is c.field-thn.ensures.is c.field-els.ensures.is c.walk_term-one.ensures c.walk_term-two.ensures c.walk_term.ensures
-
-pub walk_term-shape_of-levels-in-7 : goal.walk_term-shape_of-levels-in-7
-walk_term-shape_of-levels-in-7 t c = c.walk_term-in-7.auto.levels ∙ c.walk_term-two-in-7.auto.levels ∙ c.declare_type_of-one.auto.levels
-
-pub walk_term-shape_of-out-in-7 : goal.walk_term-shape_of-out-in-7
-walk_term-shape_of-out-in-7 t c = c.walk_term-in-7.auto.out ∙ c.walk_term-two-in-7.auto.out ∙ c.declare_type_of-one.auto.out
 
 pub walk_term-returns-in-7 : goal.walk_term-returns-in-7
 walk_term-returns-in-7 t c = walked_let c.requires.0.promise c.requires.1 c.field.ensures.is c.well_formed.1.1.1.1.1.1.0.0 c.in-7.is c.field-v-in-7.ensures.is c.field-rhs.ensures.is c.field-body.ensures.is c.declare_type_of-one.ensures c.walk_term-two-in-7.ensures c.with-more.ensures c.walk_term-in-7.ensures
@@ -294,41 +126,14 @@ walk_term-returns-in-7 t c = walked_let c.requires.0.promise c.requires.1 c.fiel
 pub walk_term-returns-in-0-to-1 : goal.walk_term-returns-in-0-to-1
 walk_term-returns-in-0-to-1 t c = walked_none c.requires.0.promise c.requires.1 c.field.ensures.is (omega arith) _ _ _ _ _ (omega (arith, c.well_formed.1.1.1.1.1.0))
 
-pub walk_term-shape_of-levels-in_default : goal.walk_term-shape_of-levels-in_default
-walk_term-shape_of-levels-in_default t c = c.walk_term-in_default.auto.levels ∙ c.walk_patterns-two.auto.levels ∙ c.declare_variables-one.auto.levels
-
-pub walk_term-shape_of-out-in_default : goal.walk_term-shape_of-out-in_default
-walk_term-shape_of-out-in_default t c = c.walk_term-in_default.auto.out ∙ c.walk_patterns-two.auto.out ∙ c.declare_variables-one.auto.out
-
 pub walk_term-returns-in_default : goal.walk_term-returns-in_default
 walk_term-returns-in_default t c = walked_quantifier c.requires.0.promise c.requires.1 c.field.ensures.is c.well_formed.1.1.1.1.1.1.0.0 (last_kind c.requires.0.promise c.requires.1 c.field.ensures.is (omega (arith, c.in_default.if-this-lt2-own.false)) c.in_default.in_default-own.rest.0.0.0.0.0.1 c.in_default.in_default-own.rest.0.0.0.0.1 c.in_default.in_default-own.rest.0.0.0.1 c.in_default.in_default-own.rest.0.0.1 c.in_default.in_default-own.rest.0.1 c.in_default.in_default-own.rest.1) c.field-start-in_default.ensures.is c.field-count-in_default.ensures.is c.field-body-in_default.ensures.is c.declare_variables-one.ensures c.exclude_variables-more.ensures c.walk_patterns-two.ensures c.walk_term-in_default.ensures
 
 pub walk_terms-loop-i-init : goal.walk_terms-loop-i-init
-walk_terms-loop-i-init t c = (omega arith, terms_none _ _ _ _ _ _ _ (omega (arith, c.well_formed.1.1.1.1.1.1.1.0)), refl)
-
-pub walk_terms-overflow_add-start : goal.walk_terms-overflow_add-start
-walk_terms-overflow_add-start t c = omega (arith, c.requires.2.ends, c.requires.0.promise.lists_laid.few)
-
-pub walk_terms-field-t-requires : goal.walk_terms-field-t-requires
-walk_terms-field-t-requires t c = reads_list c.requires.0.promise (omega (arith, c.requires.2.ends))
+walk_terms-loop-i-init t c = (terms_none _ _ _ _ _ _ _ (omega (arith, c.well_formed.1.1.1.1.1.1.1.0)), refl)
 
 pub walk_terms-walk_term-done-requires : goal.walk_terms-walk_term-done-requires
-walk_terms-walk_term-done-requires t c = (omega (arith, c.decreases, c.field-t.ensures.is, c.requires.2.below c.loop-i.i (omega arith), terms_fewer c.requires.0 _ _ c.requires.3 c.loop-i.invariant.1), (ready_next c.requires.0 c.loop-i.invariant.2, omega (arith, c.field-t.ensures.is, c.requires.2.below c.loop-i.i (omega arith), c.requires.1), c.requires.3))
-
-pub walk_terms-overflow_add-i : goal.walk_terms-overflow_add-i
-walk_terms-overflow_add-i t c = omega (arith, c.requires.2.ends, c.requires.0.promise.lists_laid.few)
-
-pub walk_terms-loop-i-smaller : goal.walk_terms-loop-i-smaller
-walk_terms-loop-i-smaller t c = omega arith
+walk_terms-walk_term-done-requires t c = (omega (arith, c.decreases, c.field-t.ensures.is, c.requires.2.below c.loop-i.i (omega arith), terms_fewer c.requires.0 _ _ c.args.exclude.now.long c.loop-i.invariant.0), (ready_next c.requires.0 c.loop-i.invariant.1, omega (arith, c.field-t.ensures.is, c.requires.2.below c.loop-i.i (omega arith), c.requires.1)))
 
 pub walk_terms-loop-i-preserved : goal.walk_terms-loop-i-preserved
-walk_terms-loop-i-preserved t c = (omega arith, terms_more _ _ _ c.well_formed.1.1.1.1.1.1.1.1.0.0 c.loop-i.invariant.1 c.field-t.ensures.is c.walk_term-done.ensures, c.walk_term-done.auto.levels ∙ c.loop-i.invariant.2)
-
-pub walk_terms-shape_of-levels : goal.walk_terms-shape_of-levels
-walk_terms-shape_of-levels t c = c.loop-i.invariant.2
-
-pub walk_terms-shape_of-out : goal.walk_terms-shape_of-out
-walk_terms-shape_of-out t c = did_length (c.loop-i.invariant.1.did (listed _ constants.most) (excludes_listed _ c.requires.3))
-
-pub walk_terms-returns : goal.walk_terms-returns
-walk_terms-returns t c = let e : c.loop-i.i ≡ c.args.count = omega arith in rw e at c.loop-i.invariant.1
+walk_terms-loop-i-preserved t c = (terms_more _ _ _ c.well_formed.1.1.1.1.1.1.1.1.0.0 c.loop-i.invariant.0 c.field-t.ensures.is c.walk_term-done.ensures, c.walk_term-done.auto.levels ∙ c.loop-i.invariant.1)

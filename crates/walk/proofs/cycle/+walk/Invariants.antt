@@ -27,19 +27,10 @@ abbrev pub decreases-walk_terms : goal.decreases-walk_terms
 decreases-walk_terms l = measure l.book.now l.levels.now (4 * l.limit + 3)
 
 abbrev pub invariant-walk_axioms-loop-i : goal.invariant-walk_axioms-loop-i
-invariant-walk_axioms-loop-i l = (l.i ≤ l.count) × Included (axioms_step l.book l.start l.i) l.level l.initial.levels l.levels l.initial.done l.initial.out l.out l.done × (length l.levels ≡ length l.initial.levels)
-
-abbrev pub decreases-walk_axioms-loop-i : goal.decreases-walk_axioms-loop-i
-decreases-walk_axioms-loop-i l = l.count - l.i
+invariant-walk_axioms-loop-i l = Included (axioms_step l.book l.start l.i) l.level l.initial.levels l.levels l.initial.done l.initial.out l.out l.done × (length l.levels ≡ length l.initial.levels)
 
 abbrev pub invariant-walk_patterns-loop-i : goal.invariant-walk_patterns-loop-i
-invariant-walk_patterns-loop-i l = (l.i ≤ l.count) × Walked (patterns_step l.book l.start l.i) l.exclude l.level l.initial.levels l.levels l.initial.done l.initial.out l.out l.done × (length l.levels ≡ length l.initial.levels)
-
-abbrev pub decreases-walk_patterns-loop-i : goal.decreases-walk_patterns-loop-i
-decreases-walk_patterns-loop-i l = l.count - l.i
+invariant-walk_patterns-loop-i l = Walked (patterns_step l.book l.start l.i) l.exclude.bits l.level l.initial.levels l.levels l.initial.done l.initial.out l.out l.done × (length l.levels ≡ length l.initial.levels)
 
 abbrev pub invariant-walk_terms-loop-i : goal.invariant-walk_terms-loop-i
-invariant-walk_terms-loop-i l = (l.i ≤ l.count) × Walked (terms_step l.book l.start l.i) l.exclude l.level l.initial.levels l.levels l.initial.done l.initial.out l.out l.done × (length l.levels ≡ length l.initial.levels)
-
-abbrev pub decreases-walk_terms-loop-i : goal.decreases-walk_terms-loop-i
-decreases-walk_terms-loop-i l = l.count - l.i
+invariant-walk_terms-loop-i l = Walked (terms_step l.book l.start l.i) l.exclude.bits l.level l.initial.levels l.levels l.initial.done l.initial.out l.out l.done × (length l.levels ≡ length l.initial.levels)

@@ -5,7 +5,4 @@ use Rattle.walk.proofs.Explaining.{Explained}
 use Rattle.walk.proofs.leaves.all_explained.Given as goal
 
 abbrev pub invariant-loop-i : goal.invariant-loop-i
-invariant-loop-i l = (l.i ≤ l.count) × (Explained l.book l.start l.i l.levels ≡ true)
-
-abbrev pub decreases-loop-i : goal.decreases-loop-i
-decreases-loop-i l = l.count - l.i
+invariant-loop-i l = Explained l.book l.start l.i l.levels ≡ true
