@@ -1,5 +1,6 @@
 -- A printing call that tests its book first: refused as the test says, or answered by what stands behind the test.
-use Rattle.std.specs.Prelude.{⊤, Result, Ok, Err}
+use Rattle.std.specs.Prelude.{⊤, Result, Ok, Err, IsErrAnd}
+use Rattle.std.proofs.lemmas.Result.{err_from_is_err_and}
 use Prim.Native.Nat.{ℕ}
 use mathlib.Core.Path.{◌≡◌, sym, ap, ◌∙◌}
 use mathlib.Core.List.{List}
@@ -33,11 +34,13 @@ module _ (b : Book) (s : List ℕ) {d : Result ⊤ Refusal} {s1 : List ℕ} (tes
   pub book_good : d ≡ Ok tt → Promise b
   book_good e = promise b (ready_passed (length s) b (passed e)).1
 
-  pub call_refused : {why : Refusal} (rest : Outcome Text) (x : List ℕ) → d ≡ Err why → Left (ready (length s) b >> rest) x s (Err why) x s1
+  -- r is what the `?` behind the test answers
+  pub call_refused : {why : Refusal} (r : Result ℕ Refusal) (rest : Outcome Text) (x : List ℕ) → d ≡ Err why → IsErrAnd r (λ e. e ≡ why) → Left (ready (length s) b >> rest) x s r x s1
   unfolding book_test_call result_value ◌>>◌
-  call_refused {why} rest x e =
+  call_refused {why} r rest x e h =
       let stopped : ready (length s) b ≡ refused (number why) = sym tested.0 ∙ ap result_value e in
-      left b s {o = ready (length s) b >> rest} (answered_refused why x (rw stopped)) tested.1
+      let p = err_from_is_err_and r h in
+      rw (p.1, p.2) (left b s {o = ready (length s) b >> rest} (answered_refused why x (rw stopped)) tested.1)
 
   pub call_good : {rest : Outcome Text} {r : Result ℕ Refusal} {x x1 : List ℕ} → d ≡ Ok tt → Answered rest r x x1 → Left (ready (length s) b >> rest) x s r x1 s1
   unfolding ◌>>◌
