@@ -1,3 +1,4 @@
 pub mod Climb
 pub mod Shared
+pub mod FromRoot
 pub mod PathLines

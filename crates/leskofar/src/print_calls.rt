@@ -7,10 +7,10 @@ ghost use Rattle.printing.specs.Calls.{layout_of};
 ghost use Rattle.leskofar.specs.Exports.{told, flag};
 
 use super::ACCEPTED;
+use book::Refusal;
 use listing::listing;
 use printing::{operator, print};
 use refusal_numbers::number;
-use solver_expr::Printed;
 use traces::trace;
 
 // The answer of a printing call: the refusal's number and 0, or 0 and the text's length.
@@ -21,15 +21,15 @@ pub struct Told {
     pub length: u64,
 }
 
-fn tell(p: Printed) -> Told
-    ensures { result ≡ told (printed_value p) }
+fn tell(printed: Result<usize, Refusal>) -> Told
+    ensures { result ≡ told (printed_value printed) }
 {
-    match p {
-        Printed::Text(n) => Told {
+    match printed {
+        Ok(n) => Told {
             refusal: ACCEPTED,
             length: n as u64,
         },
-        Printed::Refused(r) => Told {
+        Err(r) => Told {
             refusal: number(r),
             length: 0,
         },

@@ -13,9 +13,8 @@ ghost use Rattle.solver_expr.specs.Print.{printed_value, fitting, Answered};
 use basics::put_at;
 use book::format::{CONTEXT_TERM, CONTEXTS, TERMS};
 use book::{Refusal, count, field};
-use book_test::Tested;
 use listing_terms::rexpr_to_string;
-use solver_expr::Printed;
+use solver_expr::tested;
 
 // A line: term t, two spaces in.
 fn put_line(book: &[u8], t: usize, at: usize, out: &mut [u8]) -> usize
@@ -42,12 +41,9 @@ fn print_context(book: &[u8], node: usize, at: usize, out: &mut [u8]) -> usize
     ensures { WroteAt (print_context (program book.now) (path (program book.now) node)) at out.old out.new result }
 {
     let path = contexts::path_of(book, node);
-    let nodes = path.nodes;
-    let mut depth = path.depth;
     let mut done = at;
-    while 0 < depth {
-        depth -= 1;
-        done = put_premise(book, nodes[depth] as usize, done, out);
+    for below in path.nodes[..path.depth].iter().rev() {
+        done = put_premise(book, *below as usize, done, out);
     }
     done
 }
@@ -64,17 +60,16 @@ pub fn print_proof_obligation(book: &[u8], node: usize, goal: usize, out: &mut [
 }
 
 // The text is measured before the buffer is touched.
-fn print_fitting(book: &[u8], node: usize, goal: usize, text: &mut [u8]) -> Printed
+fn print_fitting(book: &[u8], node: usize, goal: usize, text: &mut [u8]) -> Result<usize, Refusal>
     requires { IsNode book.now node × (goal < size book.now terms) }
     ensures { Answered (fitting (length text.old) (print_proof_obligation (program book.now) node (term book.now goal))) result text.old text.new }
 {
-    let mut nowhere = [0; 0];
-    let whole = print_proof_obligation(book, node, goal, &mut nowhere);
+    let whole = print_proof_obligation(book, node, goal, &mut []);
     if text.len() < whole {
-        return Printed::Refused(Refusal::BufferTooShort);
+        return Err(Refusal::BufferTooShort);
     }
     print_proof_obligation(book, node, goal, text);
-    Printed::Text(whole)
+    Ok(whole)
 }
 
 // Any book, scratch, node, goal and text buffer are taken.
@@ -84,20 +79,15 @@ pub fn listing(
     node: usize,
     goal: usize,
     text: &mut [u8],
-) -> Printed
+) -> Result<usize, Refusal>
     ensures { (printed_value result ≡ (listing_call book.now scratch.old node goal text.old).answer) × (text.new ≡ (listing_call book.now scratch.old node goal text.old).text) × (scratch.new ≡ (listing_call book.now scratch.old node goal text.old).scratch) }
 {
-    let tested = book_test::book_test(book, scratch);
-    match tested {
-        Tested::Refused(why) => Printed::Refused(why),
-        Tested::Good => {
-            if count(book, CONTEXTS) < node {
-                return Printed::Refused(Refusal::NotInBook);
-            }
-            if count(book, TERMS) <= goal {
-                return Printed::Refused(Refusal::NotInBook);
-            }
-            print_fitting(book, node, goal, text)
-        }
+    tested(book, scratch)?;
+    if count(book, CONTEXTS) < node {
+        return Err(Refusal::NotInBook);
     }
+    if count(book, TERMS) <= goal {
+        return Err(Refusal::NotInBook);
+    }
+    print_fitting(book, node, goal, text)
 }

@@ -149,12 +149,10 @@ fn rexpr_list_to_string(
     ensures { WroteAt (terms_text book.now start count) at out.old out.new result }
 {
     let mut done = at;
-    let mut i = 0;
-    while i < count {
+    for i in 0..count {
         let t = field(book, LISTS, start + i, LISTED);
         let next = put_lead(i, done, out);
         done = rexpr_to_string(book, t, next, out);
-        i += 1;
     }
     done
 }
@@ -173,14 +171,12 @@ fn patterns_to_string(
     ensures { WroteAt (patterns_text book.now start count) at out.old out.new result }
 {
     let mut done = at;
-    let mut i = 0;
-    while i < count {
+    for i in 0..count {
         let p = field(book, LISTS, start + i, LISTED);
         let first = field(book, PATTERNS, p, PATTERN_TERMS);
         let many = field(book, PATTERNS, p, PATTERN_COUNT);
         let word = put_at(b" pattern ", done, out);
         done = rexpr_list_to_string(book, limit, first, many, word, out);
-        i += 1;
     }
     done
 }

@@ -60,12 +60,10 @@ pub fn bound_vars_to_string(
     ensures { WroteAt (variables_text book.now start count) at out.old out.new result }
 {
     let mut done = at;
-    let mut i = 0;
-    while i < count {
+    for i in 0..count {
         let v = field(book, LISTS, start + i, LISTED);
         let next = put_lead(i, done, out);
         done = bound_var_to_string(book, v, next, out);
-        i += 1;
     }
     done
 }

@@ -1,3 +1,2 @@
-mod OperatorTable
-mod PrintCalls
 mod OperatorCalls
+mod PrintCalls

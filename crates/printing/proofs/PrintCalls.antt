@@ -1,4 +1,5 @@
 -- A term's text, measured on an empty slice and then written.
+use Rattle.std.specs.Prelude.{Ok, Err}
 use Prim.Native.Nat.{ℕ, ◌+◌, ◌≤◌, ◌<◌}
 use native.Mathlib.Omega.{arith}
 use mathlib.Core.Path.{◌≡◌, refl, ap, subst}
@@ -14,7 +15,6 @@ use Rattle.solver_expr.specs.Print.{fitting, Answered}
 use Rattle.solver_expr.proofs.Answers.{fitted_done, fitted_long}
 use Rattle.solver_expr.specs.Values.{term_of, Lowered}
 use Rattle.solver_expr.specs.declared.SExpr as code
-use Rattle.solver_expr.specs.declared.Printed.TheVariants as answer
 use Rattle.printer.specs.Printing.{WroteIn, expr_text}
 use Rattle.printing.specs.Calls.{layout_of, term_text}
 
@@ -29,8 +29,8 @@ module _ {t o p : List ℕ} {n : ℕ} (w : Wrote t [] p n) where
   untouched : p ++ o ≡ o
   untouched = rw (wrote_nowhere w)
 
-  pub measured_long : length (p ++ o) < n → Answered (fitting (length o) t) (answer.Refused BufferTooShort) o (p ++ o)
+  pub measured_long : length (p ++ o) < n → Answered (fitting (length o) t) (Err BufferTooShort) o (p ++ o)
   measured_long h = rw untouched (fitted_long t (omega (arith, w.counted, ap length untouched)))
 
-  pub measured_done : {o1 : List ℕ} {m : ℕ} → length o < MOST → n ≤ length (p ++ o) → Wrote t (p ++ o) o1 m → Answered (fitting (length o) t) (answer.Text n) o o1
+  pub measured_done : {o1 : List ℕ} {m : ℕ} → length o < MOST → n ≤ length (p ++ o) → Wrote t (p ++ o) o1 m → Answered (fitting (length o) t) (Ok n) o o1
   measured_done short h v = fitted_done (omega (arith, w.counted, ap length untouched)) (omega (arith, ap length untouched)) (rw untouched at v)

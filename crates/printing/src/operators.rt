@@ -1,47 +1,45 @@
 // The call operator: the names of Ast.dfy's operators.
-ghost use Rattle.std.specs.Prelude.{◌≡◌, ◌<◌, length};
-ghost use Rattle.solver_expr.specs.Print.{printed_value, operator_call, fitting, Answered};
-ghost use Rattle.printing.specs.Calls.{operator_count, operator_name};
+ghost use Rattle.std.proofs.Math.Option.{none};
+ghost use Rattle.std.specs.Prelude.{◌≡◌, ℕ, MatchOption};
+ghost use Rattle.solver_expr.specs.Operators.{operator_of};
+ghost use Rattle.solver_expr.specs.Print.{printed_value, fitting, operator_text, operator_call};
 
 use basics::put_all;
 use book::Refusal;
-use solver_expr::Printed;
 
-// The codes of the operators.
-const FIRST: usize = 1;
-
-const LAST: usize = 14;
-
-// As many bytes as a name has at most.
-const WIDTH: usize = 3;
-
-// The names by their codes, from the first code on, and their lengths.
-const NAMES: [u8; 42] = *b"=  => andor =  <  <= +  -  *  divmodnot-  ";
-
-const LENGTHS: [usize; 14] = [1, 2, 3, 2, 1, 1, 2, 1, 1, 1, 3, 3, 3, 1];
-
-// Name k of the table, if it fits.
-fn named(k: usize, text: &mut [u8]) -> Printed
-    requires { k < operator_count }
-    ensures { Answered (fitting (length text.old) (operator_name k)) result text.old text.new }
+// The name of the operator with a code.
+#[tactic(auto, unfolding(solver_expr::specs::Operators::operator_of, solver_expr::specs::Operators::operator_to_string, solver_expr::specs::Print::operator_text))]
+fn name_of(code: usize) -> Option<&'static [u8]>
+    ensures { MatchOption result (operator_of code ≡ none) (λ name. (room : ℕ) → operator_text (operator_of code) room ≡ fitting room name.now) }
 {
-    let names = NAMES;
-    let n = LENGTHS[k];
-    if text.len() < n {
-        return Printed::Refused(Refusal::BufferTooShort);
+    match code {
+        1 => Some(b"="),
+        2 => Some(b"=>"),
+        3 => Some(b"and"),
+        4 => Some(b"or"),
+        5 => Some(b"="),
+        6 => Some(b"<"),
+        7 => Some(b"<="),
+        8 => Some(b"+"),
+        9 => Some(b"-"),
+        10 => Some(b"*"),
+        11 => Some(b"div"),
+        12 => Some(b"mod"),
+        13 => Some(b"not"),
+        14 => Some(b"-"),
+        _ => None,
     }
-    let start = WIDTH * k;
-    let end = start + n;
-    put_all(&names[start..end], text);
-    Printed::Text(n)
 }
 
-pub fn operator(code: usize, text: &mut [u8]) -> Printed
+pub fn operator(code: usize, text: &mut [u8]) -> Result<usize, Refusal>
     ensures answer { printed_value result ≡ (operator_call code text.old).answer }
     ensures text { text.new ≡ (operator_call code text.old).text }
 {
-    match code {
-        FIRST..=LAST => named(code - FIRST, text),
-        _ => Printed::Refused(Refusal::NoOperator),
+    let Some(name) = name_of(code) else {
+        return Err(Refusal::NoOperator);
+    };
+    if text.len() < name.len() {
+        return Err(Refusal::BufferTooShort);
     }
+    Ok(put_all(name, text))
 }

@@ -7,9 +7,8 @@ ghost use Rattle.printing.specs.Calls.{layout_of, term_text};
 
 use book::format::TERMS;
 use book::{Refusal, count};
-use book_test::{Tested, book_test};
 use printer::{SExprPrintConfig, to_string};
-use solver_expr::{Printed, to_sexpr};
+use solver_expr::{tested, to_sexpr};
 
 // Measures the text on an empty slice, and then writes it, or refuses one that is too long.
 fn print_term(
@@ -19,22 +18,18 @@ fn print_term(
     newlines: bool,
     indent: usize,
     text: &mut [u8],
-) -> Printed
+) -> Result<usize, Refusal>
     requires { Ready book.now terms t }
     ensures { Answered (fitting (length text.old) (term_text book.now t tag newlines indent)) result text.old text.new }
 {
     let e = to_sexpr(book, t);
-    let config = SExprPrintConfig {
-        newlines: newlines,
-        indent: indent,
-    };
-    let empty: usize = 0;
-    let n = to_string(book, e, tag, config, &mut text[empty..empty]);
+    let config = SExprPrintConfig { newlines, indent };
+    let n = to_string(book, e, tag, config, &mut text[..0]);
     if text.len() < n {
-        return Printed::Refused(Refusal::BufferTooShort);
+        return Err(Refusal::BufferTooShort);
     }
     to_string(book, e, tag, config, text);
-    Printed::Text(n)
+    Ok(n)
 }
 
 pub fn print(
@@ -45,18 +40,14 @@ pub fn print(
     newlines: bool,
     indent: u64,
     text: &mut [u8],
-) -> Printed
+) -> Result<usize, Refusal>
     ensures answer { printed_value result ≡ (print_call book.now scratch.old t tag (layout_of newlines indent) text.old).answer }
     ensures text { text.new ≡ (print_call book.now scratch.old t tag (layout_of newlines indent) text.old).text }
     ensures scratch { scratch.new ≡ (print_call book.now scratch.old t tag (layout_of newlines indent) text.old).scratch }
 {
-    match book_test(book, scratch) {
-        Tested::Refused(why) => Printed::Refused(why),
-        Tested::Good => {
-            if count(book, TERMS) <= t {
-                return Printed::Refused(Refusal::NotInBook);
-            }
-            print_term(book, t, tag, newlines, indent as usize, text)
-        }
+    tested(book, scratch)?;
+    if count(book, TERMS) <= t {
+        return Err(Refusal::NotInBook);
     }
+    print_term(book, t, tag, newlines, indent as usize, text)
 }

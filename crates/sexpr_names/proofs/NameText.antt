@@ -3,7 +3,10 @@ use Prim.Native.Nat.{ℕ, zero, suc, ◌+◌, ◌-◌, ◌/◌, ◌%◌, ◌<◌
 use native.Mathlib.Omega.{arith}
 use mathlib.Core.Path.{◌≡◌, refl, sym, ap, ◌∙◌, subst}
 use mathlib.Core.List.{List, [], ◌∷◌, ◌++◌, append_assoc}
+use mathlib.Core.Bool.{Bool, true, false}
+use lib.Dec.{eqb}
 use lib.ListN.{length, length-append}
+use borrow.Author.Tests.{eqb-true}
 use Rattle.basics.specs.Text.{Text, ascii}
 use Rattle.basics.specs.Basics.{int2_string_no_leading_zero, nat2_string}
 use Rattle.basics.specs.Write.{Wrote}
@@ -32,11 +35,12 @@ unfolding name_to_string
 empty [] h = refl
 empty (x ∷ t) h = absurd (omega arith)
 
-pub name_none : {s u : Text} → s ≡ u → length s ≡ 0 → ascii "()" ≡ name_to_string u
-name_none {s} {u} e h = empty u (sym (ap length e) ∙ h)
+module _ {s u : Text} {r : Bool} (e : s ≡ u) (h : r ≡ eqb (length s) 0) where
+  pub name_none : r ≡ true → ascii "()" ≡ name_to_string u
+  name_none y = empty u (sym (ap length e) ∙ eqb-true (length s) 0 (sym h ∙ y))
 
-pub name_some : {s u : Text} → s ≡ u → (length s ≡ 0 → ⊥) → s ≡ name_to_string u
-name_some {s} e h = rw (← e) (shown s (omega arith))
+  pub name_some : r ≡ false → s ≡ name_to_string u
+  name_some n = let some : 0 < length s = grind arith in rw (← e) (shown s some)
 
 -- Types inside literals.
 
@@ -78,14 +82,13 @@ module _ (b : Book) where
 
 -- Words, symbols, numbers and literals are not empty.
 
-pub word_as : {w v : Word} {o o1 : List ℕ} {r : ℕ} → w ≡ v → Wrote (word_text v) o o1 r → Wrote (word_text w) o o1 r
-word_as e h = rw e h
-
 word_shown : (w : Word) → word_text w ≡ name_to_string (word_text w)
 unfolding word_text name_to_string
 word_shown word.False = refl
 word_shown word.True = refl
+word_shown word.Equals = refl
 word_shown word.Not = refl
+word_shown word.And = refl
 word_shown word.Minus = refl
 word_shown word.Ite = refl
 word_shown word.Let = refl
@@ -102,9 +105,9 @@ nat_some zero = omega arith
 nat_some (suc n) = omega (arith, length-append (int2_string_no_leading_zero n (suc n / 10)) ((48 + suc n % 10) ∷ []))
 
 module _ (b : Book) (tag : ℕ) {n : SName} {o o1 : List ℕ} {r : ℕ} where
-  pub wrote_word : {w : Word} → n ≡ name.Word w → Wrote (word_text w) o o1 r → Wrote (name_to_string (text_of b tag n)) o o1 r
+  pub wrote_word : {w : Word} {s : Text} → n ≡ name.Word w → s ≡ word_text w → Wrote s o o1 r → Wrote (name_to_string (text_of b tag n)) o o1 r
   unfolding text_of
-  wrote_word {w} e h = rw e (wrote_as (word_shown w) h)
+  wrote_word {w} e l h = rw e (wrote_as (l ∙ word_shown w) h)
 
   pub wrote_operator : {k : ℕ} → n ≡ name.Operator k → Wrote (name_to_string (name_text b k)) o o1 r → Wrote (name_to_string (text_of b tag n)) o o1 r
   unfolding text_of

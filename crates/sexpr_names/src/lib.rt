@@ -8,32 +8,13 @@ ghost use Rattle.symbols.specs.Symbols.{symbol_text};
 ghost use Rattle.book.specs.Decode.{type_of, literal_of};
 ghost use Rattle.solver_expr.specs.SolverExpr.{name_to_string, type_to_string};
 ghost use Rattle.solver_expr.specs.Lowering.{literal_name};
-ghost use Rattle.solver_expr.specs.Values.{Ready, ReadyType, ReadyLiteral, word_text, text_of};
+ghost use Rattle.solver_expr.specs.Values.{Ready, ReadyType, ReadyLiteral, text_of};
 ghost use Rattle.sexpr_names.specs.Names.{ReadyName};
 
 use basics::{clip, put, put_all, put_u64, sum};
 use book::field;
 use book::format::*;
-use solver_expr::{SExpr, SName, Word};
-
-fn put_word(w: Word, out: &mut [u8]) -> usize
-    ensures { Wrote (word_text w) out.old out.new result }
-{
-    match w {
-        Word::False => put_all(&SExpr::false_word(), out),
-        Word::True => put_all(&SExpr::true_word(), out),
-        Word::Not => put_all(&SExpr::not_word(), out),
-        Word::Minus => put_all(b"-", out),
-        Word::Ite => put_all(b"ite", out),
-        Word::Let => put_all(b"let", out),
-        Word::Forall => put_all(b"forall", out),
-        Word::Exists => put_all(b"exists", out),
-        Word::Bang => put_all(b"!", out),
-        Word::Pattern => put_all(b":pattern", out),
-        Word::Bool => put_all(b"Bool", out),
-        Word::Int => put_all(b"Int", out),
-    }
-}
+use solver_expr::SName;
 
 // Name n of a built-in operator where S(name) is printed: an empty one is ().
 pub fn put_name(book: &[u8], n: usize, out: &mut [u8]) -> usize
@@ -41,7 +22,7 @@ pub fn put_name(book: &[u8], n: usize, out: &mut [u8]) -> usize
     ensures { Wrote (name_to_string (name_text book.now n)) out.old out.new result }
 {
     let s = book::name(book, n);
-    if s.len() == 0 {
+    if s.is_empty() {
         return put_all(b"()", out);
     }
     put_all(s, out)
@@ -112,7 +93,7 @@ pub fn name_to_string(book: &[u8], n: SName, tag: u64, out: &mut [u8]) -> usize
     ensures { Wrote (name_to_string (text_of book.now tag n)) out.old out.new result }
 {
     match n {
-        SName::Word(w) => put_word(w, out),
+        SName::Word(w) => put_all(w.text(), out),
         SName::Operator(k) => put_name(book, k, out),
         SName::Symbol(k) => put_symbol(book, k, out),
         SName::Numeral(x) => put_u64(x, out),

@@ -1,4 +1,5 @@
 -- The answer of a printing call: a refusal, or the text.
+use Rattle.std.specs.Prelude.{Result, Ok, Err}
 use Prim.Native.Nat.{ℕ, ◌≤◌, ◌<◌, min}
 use native.Mathlib.Omega.{arith}
 use mathlib.Core.Path.{◌≡◌}
@@ -14,14 +15,12 @@ use Rattle.book.specs.Refusal.{number}
 use Rattle.book.specs.declared.Refusal.{Refusal}
 use Rattle.book.specs.declared.Refusal.TheVariants.{NotInBook, BufferTooShort}
 use Rattle.solver_expr.specs.Print.{fitting, printed_value, Answered}
-use Rattle.solver_expr.specs.declared.Printed.{Printed}
-use Rattle.solver_expr.specs.declared.Printed.TheVariants as answer
 
-pub answered_refused : {o : Outcome Text} (ref : Refusal) (t : List ℕ) → o ≡ refused (number ref) → Answered o (answer.Refused ref) t t
+pub answered_refused : {o : Outcome Text} (ref : Refusal) (t : List ℕ) → o ≡ refused (number ref) → Answered o (Err ref) t t
 unfolding printed_value map_outcome buffer_after
 answered_refused ref t e = record { answer = rw e; text = rw e }
 
-pub answered_text : {o : Outcome Text} {x : Text} {t t' : List ℕ} {r s : ℕ} → o ≡ accepted x → r ≡ length x → Wrote x t t' s → Answered o (answer.Text r) t t'
+pub answered_text : {o : Outcome Text} {x : Text} {t t' : List ℕ} {r s : ℕ} → o ≡ accepted x → r ≡ length x → Wrote x t t' s → Answered o (Ok r) t t'
 unfolding printed_value map_outcome buffer_after
 answered_text e l w = record { answer = rw (e, l); text = rw e w.shown }
 
@@ -38,17 +37,17 @@ too_long : (room : ℕ) (x : Text) → room < length x → fitting room x ≡ re
 unfolding fitting refuse ◌>>◌ number
 too_long room x h = rw (lt-ltb room (length x) h)
 
-pub fitted_done : {x t t' : List ℕ} {n m : ℕ} → n ≡ length x → n ≤ length t → Wrote x t t' m → Answered (fitting (length t) x) (answer.Text n) t t'
+pub fitted_done : {x t t' : List ℕ} {n m : ℕ} → n ≡ length x → n ≤ length t → Wrote x t t' m → Answered (fitting (length t) x) (Ok n) t t'
 fitted_done {x} {t} e h w = answered_text (fits (length t) x (omega arith)) e w
 
-pub fitted_long : (x : Text) {t : List ℕ} → length t < length x → Answered (fitting (length t) x) (answer.Refused BufferTooShort) t t
+pub fitted_long : (x : Text) {t : List ℕ} → length t < length x → Answered (fitting (length t) x) (Err BufferTooShort) t t
 fitted_long x {t} h = answered_refused BufferTooShort t (too_long (length t) x h)
 
 -- refusal 7, and what comes behind it
-pub answered_outside : {test : Bool} (rest : Outcome Text) (t : List ℕ) → test ≡ true → Answered (refuse 7 test >> rest) (answer.Refused NotInBook) t t
+pub answered_outside : {test : Bool} (rest : Outcome Text) (t : List ℕ) → test ≡ true → Answered (refuse 7 test >> rest) (Err NotInBook) t t
 unfolding refuse ◌>>◌ number
 answered_outside rest t e = answered_refused NotInBook t (rw e)
 
-pub answered_inside : {test : Bool} {rest : Outcome Text} {r : Printed} {t t' : List ℕ} → test ≡ false → Answered rest r t t' → Answered (refuse 7 test >> rest) r t t'
+pub answered_inside : {test : Bool} {rest : Outcome Text} {r : Result ℕ Refusal} {t t' : List ℕ} → test ≡ false → Answered rest r t t' → Answered (refuse 7 test >> rest) r t t'
 unfolding refuse ◌>>◌
 answered_inside e a = rw e a

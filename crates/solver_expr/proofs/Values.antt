@@ -1,6 +1,6 @@
 -- What the builders make, and the values of lowered terms.
 use Rattle.std.specs.Prelude.{if◌then◌else◌}
-use Prim.Native.Nat.{ℕ, zero, suc, ◌+◌, ◌-◌, ◌*◌, ◌^◌, ◌≤◌, ◌<◌}
+use Prim.Native.Nat.{ℕ, zero, suc, ◌+◌, ◌-◌, ◌*◌, ◌%◌, ◌^◌, ◌≤◌, ◌<◌}
 use native.Mathlib.Omega.{arith}
 use mathlib.Core.Path.{◌≡◌, refl, sym, ap, ◌∙◌}
 use mathlib.Core.Bool.{Bool, true, false, not}
@@ -8,7 +8,6 @@ use lib.Dec.{eqb}
 use borrow.Author.Tests.{lt-ltb, le-ltb}
 use Rattle.basics.specs.Text.{ascii, same}
 use Rattle.basics.specs.Basics.{int64}
-use Rattle.basics.specs.Write.{MOST}
 use Rattle.book.specs.Book.{Book, types, constants, functions, terms, size, field, name_text}
 use Rattle.book.specs.Decode.{kind_of, constant_of, function_of, type_of, literal_of, term_by}
 use Rattle.book.specs.RExpr.{is_tag}
@@ -38,10 +37,10 @@ pub integer_bare : {bits : ℕ} → bits < 2 ^ 63 → IsInteger (int64 bits) (va
 unfolding Fine FineName meaning text_of integer int64
 integer_bare {bits} l = rw (lt-ltb bits (2 ^ 63) l) (record { fine = λ b. tt; is = λ b tag. refl })
 
-pub integer_minus : {bits : ℕ} → 2 ^ 63 ≤ bits → bits < 2 ^ 64 → IsInteger (int64 bits) (value.PP (row.Minus (MOST - bits + 1)))
+pub integer_minus : {bits n : ℕ} → 2 ^ 63 ≤ bits → bits < 2 ^ 64 → (n + bits) % 2 ^ 64 ≡ 0 → n < 2 ^ 64 → IsInteger (int64 bits) (value.PP (row.Minus n))
 unfolding Fine FineRow meaning row_of integer func_appl int64
-integer_minus {bits} h f =
-    let e : MOST - bits + 1 ≡ suc (2 ^ 64 - suc bits) = omega (arith, h, f) in
+integer_minus {bits} {n} h f z g =
+    let e : n ≡ suc (2 ^ 64 - suc bits) = omega arith in
     rw (le-ltb bits (2 ^ 63) h, e) (record { fine = λ b. tt; is = λ b tag. refl })
 
 pub is_appl_none : {op : SName} {t count : ℕ} → count ≡ 0 → IsAppl op t count (value.S op)

@@ -4,3 +4,4 @@ pub mod Operators
 pub mod Print
 pub mod Values
 pub mod SymbolsHold
+pub mod Tested

@@ -1,23 +1,22 @@
 -- The calls print and operator: refusals in their order, the text, and what the buffers hold afterwards.
-use Rattle.std.specs.Prelude.{ℕ, ◌≡◌, List, leb, ltb, length}
+use Rattle.std.specs.Prelude.{ℕ, ◌≡◌, List, leb, ltb, length, Result, Ok, Err}
 use Rattle.std.proofs.Math.Option.{Option, none, some}
 use Rattle.basics.specs.Text.{Text}
 use Rattle.basics.specs.Outcome.{Outcome, refused, accepted, refuse, ◌>>◌, map_outcome}
 use Rattle.basics.specs.Buffer.{buffer_after, scratch_after}
 use Rattle.book.specs.Refusal.{number}
+use Rattle.book.specs.declared.Refusal.{Refusal}
 use Rattle.book.specs.Book.{Book, terms, size}
 use Rattle.book.specs.Decode.{term}
 use Rattle.book_test.specs.BookTest.{ready}
 use Rattle.solver_expr.specs.SolverExpr.{SExprPrintConfig, to_string}
 use Rattle.solver_expr.specs.Lowering.{to_sexpr}
 use Rattle.solver_expr.specs.Operators.{Operator, operator_of, operator_to_string}
-use Rattle.solver_expr.specs.declared.Printed as code
-use Rattle.solver_expr.specs.declared.Printed.TheVariants as answer
 
--- the number and values of each answer
-unfoldable pub printed_value : code.Printed → Outcome ℕ
-printed_value (answer.Text n) = accepted n
-printed_value (answer.Refused r) = refused (number r)
+-- the number and values of each answer: the text's length
+unfoldable pub printed_value : Result ℕ Refusal → Outcome ℕ
+printed_value (Ok n) = accepted n
+printed_value (Err r) = refused (number r)
 
 -- what a printing call leaves: the text's length, and the buffers
 pub record Printed : Type 0 where
@@ -33,7 +32,7 @@ printed o text scratch =
     record { answer = map_outcome length o; text = buffer_after o itself text; scratch = scratch_after scratch }
 
 -- what is answered for an outcome, and left in a text buffer t
-pub record Answered (o : Outcome Text) (r : code.Printed) (t t' : List ℕ) : Type 0 where
+pub record Answered (o : Outcome Text) (r : Result ℕ Refusal) (t t' : List ℕ) : Type 0 where
   pub answer : printed_value r ≡ map_outcome length o
   pub text : t' ≡ buffer_after o itself t
 

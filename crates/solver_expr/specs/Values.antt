@@ -6,7 +6,7 @@ use Rattle.symbols.specs.Symbols.{symbol_text}
 use Rattle.book.specs.Book.{Book, Section, names, types, constants, functions, patterns, terms, size, field, entries, name_text, user_types}
 use Rattle.book.specs.Decode.{Kind, if_then_else, let_expr, quantifier_expr, type_of, constant_of, function_of, literal_of, args_of, pattern_of, to_rpatterns, term}
 use Rattle.book_test.specs.Promise.{Promise, Range, GoodLiteral, GoodKind}
-use Rattle.solver_expr.specs.SolverExpr.{SExpr, SExprs, S, PP, []ˢ, ◌∷ˢ◌, FALSE, TRUE, NOT, boolean, integer, id, func_appl, negation, type_to_sexpr, type_list}
+use Rattle.solver_expr.specs.SolverExpr.{SExpr, SExprs, S, PP, []ˢ, ◌∷ˢ◌, FALSE, TRUE, EQ, NOT, AND, boolean, integer, id, func_appl, negation, type_to_sexpr, type_list}
 use Rattle.solver_expr.specs.Lowering.{literal_name, literal_to_string, bound_vars_to_sexpr, annotate, to_sexpr, to_sexprs, patterns_to_sexprs}
 use Rattle.solver_expr.specs.declared.Word.{Word}
 use Rattle.solver_expr.specs.declared.Word.TheVariants as word
@@ -20,7 +20,9 @@ use Rattle.solver_expr.specs.declared.SExpr.TheVariants as value
 unfoldable pub word_text : Word → Text
 word_text word.False = FALSE
 word_text word.True = TRUE
+word_text word.Equals = EQ
 word_text word.Not = NOT
+word_text word.And = AND
 word_text word.Minus = ascii "-"
 word_text word.Ite = ascii "ite"
 word_text word.Let = ascii "let"

@@ -3,33 +3,26 @@
 ghost use Rattle.std.specs.Prelude.{◌≡◌};
 ghost use Rattle.basics.specs.Basics.{int64};
 ghost use Rattle.book.specs.Book.{constants};
-ghost use Rattle.solver_expr.specs.SolverExpr.{FALSE, TRUE, EQ, NOT, AND};
-ghost use Rattle.solver_expr.specs.Values.{Ready, IsBoolean, IsInteger, IsId, IsAppl, IsNegation};
+ghost use Rattle.solver_expr.specs.Values.{Ready, word_text, IsBoolean, IsInteger, IsId, IsAppl, IsNegation};
 
 use basics::SIGN;
+use book::field;
 use book::format::{CONSTANT_NAME, CONSTANTS};
-use book::{Refusal, field};
 
+mod book_call;
 mod lowering;
 
+pub use book_call::tested;
 pub use lowering::{integer_bits, to_sexpr, type_to_sexpr};
 
-// The bits of -1.
-const MAX: u64 = 0xFFFF_FFFF_FFFF_FFFF;
-
-// The answer of a printing call: the text's length.
-#[derive(Clone, Copy)]
-pub enum Printed {
-    Text(usize),
-    Refused(Refusal),
-}
-
-// The words of lowered terms.
+// The words of lowered terms, and Equals and And, which the Dafny names beside them.
 #[derive(Clone, Copy)]
 pub enum Word {
     False,
     True,
+    Equals,
     Not,
+    And,
     Minus,
     Ite,
     Let,
@@ -39,6 +32,31 @@ pub enum Word {
     Pattern,
     Bool,
     Int,
+}
+
+impl Word {
+    // What is printed.
+    #[tactic(auto, unfolding(crate::specs::Values::word_text))]
+    pub fn text(self) -> &'static [u8]
+        ensures { result.now ≡ word_text self }
+    {
+        match self {
+            Word::False => b"false",
+            Word::True => b"true",
+            Word::Equals => b"=",
+            Word::Not => b"not",
+            Word::And => b"and",
+            Word::Minus => b"-",
+            Word::Ite => b"ite",
+            Word::Let => b"let",
+            Word::Forall => b"forall",
+            Word::Exists => b"exists",
+            Word::Bang => b"!",
+            Word::Pattern => b":pattern",
+            Word::Bool => b"Bool",
+            Word::Int => b"Int",
+        }
+    }
 }
 
 // The string of S(string): a word, the name of a built-in operator or of a type, constant or function, a number that is not negative, a literal's term, or the number of %tag.
@@ -78,55 +96,10 @@ pub enum SExpr {
 }
 
 impl SExpr {
-    pub const FALSE: [u8; 5] = *b"false";
-
-    pub const TRUE: [u8; 4] = *b"true";
-
-    pub const EQ: [u8; 1] = *b"=";
-
-    pub const NOT: [u8; 3] = *b"not";
-
-    pub const AND: [u8; 3] = *b"and";
-
-    // The words, each as its definition has it.
-    pub fn false_word() -> [u8; 5]
-        ensures { result ≡ FALSE }
-    {
-        SExpr::FALSE
-    }
-
-    pub fn true_word() -> [u8; 4]
-        ensures { result ≡ TRUE }
-    {
-        SExpr::TRUE
-    }
-
-    pub fn eq_word() -> [u8; 1]
-        ensures { result ≡ EQ }
-    {
-        SExpr::EQ
-    }
-
-    pub fn not_word() -> [u8; 3]
-        ensures { result ≡ NOT }
-    {
-        SExpr::NOT
-    }
-
-    pub fn and_word() -> [u8; 3]
-        ensures { result ≡ AND }
-    {
-        SExpr::AND
-    }
-
     pub fn boolean(b: bool) -> SExpr
         ensures { IsBoolean b result }
     {
-        if b {
-            SExpr::S(SName::Word(Word::True))
-        } else {
-            SExpr::S(SName::Word(Word::False))
-        }
+        SExpr::S(SName::Word(if b { Word::True } else { Word::False }))
     }
 
     // Integer(x), x the number that 64 bits are as two's complement. A negative one is not negated, since the least can't be.
@@ -136,7 +109,7 @@ impl SExpr {
         if bits < SIGN {
             SExpr::S(SName::Numeral(bits))
         } else {
-            SExpr::PP(SRow::Minus(MAX - bits + 1))
+            SExpr::PP(SRow::Minus(bits.wrapping_neg()))
         }
     }
 

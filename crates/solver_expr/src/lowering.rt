@@ -9,7 +9,7 @@ use book::field;
 use book::format::*;
 
 // The name of the literal that is replaced by a number.
-const TAG: [u8; 4] = *b"%tag";
+const TAG: &[u8] = b"%tag";
 
 // What the high half of an Integer counts.
 const HIGH: usize = 0x1_0000_0000;
@@ -30,11 +30,7 @@ fn is_tag(book: &[u8], n: usize) -> bool
     requires { Ready book.now names n }
     ensures { result ≡ same (name_text book.now n) (ascii "%tag") }
 {
-    let s = book::name(book, n);
-    if s.len() != TAG.len() {
-        return false;
-    }
-    (s[0] == TAG[0]) & (s[1] == TAG[1]) & (s[2] == TAG[2]) & (s[3] == TAG[3])
+    book::name(book, n) == TAG
 }
 
 fn literal(book: &[u8], t: usize) -> SExpr

@@ -12,8 +12,7 @@ ghost use Rattle.traces.specs.Call.{trace_in};
 
 use book::Refusal;
 use book::format::{CONTEXT_TRACE, CONTEXTS};
-use book_test::Tested;
-use solver_expr::Printed;
+use solver_expr::tested;
 
 // The field of a node without trace; that of another is its name's number and one.
 const NO_TRACE: usize = 0;
@@ -47,42 +46,40 @@ fn print_trace(book: &[u8], node: usize, out: &mut [u8]) -> usize
     ensures { Wrote (print_trace (program book.now) node) out.old out.new result }
 {
     let path = contexts::path_of(book, node);
-    let nodes = path.nodes;
-    let mut depth = path.depth;
     let mut written = 0;
-    while 0 < depth {
-        depth -= 1;
+    for below in path.nodes[..path.depth].iter().rev() {
         let k = basics::clip(written, out.len());
-        let line = trace_line(book, nodes[depth] as usize, &mut out[k..]);
+        let line = trace_line(book, *below as usize, &mut out[k..]);
         written = basics::sum(written, line);
     }
     written
 }
 
 // The call in a book that passed its test. The text is measured before the buffer is touched.
-fn trace_in(book: &[u8], node: usize, text: &mut [u8]) -> Printed
+fn trace_in(book: &[u8], node: usize, text: &mut [u8]) -> Result<usize, Refusal>
     requires { Promise book.now }
     ensures { Answered (trace_in book.now node (length text.old)) result text.old text.new }
 {
     if book::count(book, CONTEXTS) < node {
-        return Printed::Refused(Refusal::NotInBook);
+        return Err(Refusal::NotInBook);
     }
-    let mut nowhere = [0; 0];
-    let whole = print_trace(book, node, &mut nowhere);
+    let whole = print_trace(book, node, &mut []);
     if text.len() < whole {
-        return Printed::Refused(Refusal::BufferTooShort);
+        return Err(Refusal::BufferTooShort);
     }
     print_trace(book, node, text);
-    Printed::Text(whole)
+    Ok(whole)
 }
 
 // Any book, scratch, node and text buffer are taken.
-pub fn trace(book: &[u8], scratch: &mut [u8], node: usize, text: &mut [u8]) -> Printed
+pub fn trace(
+    book: &[u8],
+    scratch: &mut [u8],
+    node: usize,
+    text: &mut [u8],
+) -> Result<usize, Refusal>
     ensures { (printed_value result ≡ (trace_call book.now scratch.old node text.old).answer) × (text.new ≡ (trace_call book.now scratch.old node text.old).text) × (scratch.new ≡ (trace_call book.now scratch.old node text.old).scratch) }
 {
-    let tested = book_test::book_test(book, scratch);
-    match tested {
-        Tested::Refused(refusal) => Printed::Refused(refusal),
-        Tested::Good => trace_in(book, node, text),
-    }
+    tested(book, scratch)?;
+    trace_in(book, node, text)
 }

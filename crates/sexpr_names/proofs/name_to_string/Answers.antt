@@ -11,7 +11,7 @@ pub put_literal-requires : goal.put_literal-requires
 put_literal-requires c = ready_literal c.in-Literal.is c.requires
 
 pub returns-in-Word : goal.returns-in-Word
-returns-in-Word c = wrote_word _ _ c.in-Word.is c.put_word.ensures
+returns-in-Word c = wrote_word _ _ c.in-Word.is c.text.ensures c.put_all.ensures
 
 pub returns-in-Operator : goal.returns-in-Operator
 returns-in-Operator c = wrote_operator _ _ c.in-Operator.is c.put_name.ensures

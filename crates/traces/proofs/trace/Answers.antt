@@ -4,12 +4,12 @@ use Rattle.traces.specs.Call.{trace_in}
 use Rattle.traces.proofs.trace.Goals as goal
 
 pub trace_in-requires : goal.trace_in-requires
-trace_in-requires c = book_good _ _ c.book_test-tested.ensures c.in-Good.is
+trace_in-requires c = book_good _ _ c.tested.ensures c.in_ok-tested.was
 
-pub returns-in-Refused : goal.returns-in-Refused
+pub returns-in_err-tested : goal.returns-in_err-tested
 unfolding trace_call trace_text
-returns-in-Refused c = call_refused _ _ c.book_test-tested.ensures _ _ c.in-Refused.is
+returns-in_err-tested c = call_refused _ _ c.tested.ensures _ _ _ c.in_err-tested.was c.from_residual.ensures.1
 
-pub returns-in-Good : goal.returns-in-Good
+pub returns : goal.returns
 unfolding trace_call trace_text trace_in
-returns-in-Good c = call_good _ _ c.book_test-tested.ensures c.in-Good.is c.trace_in.ensures
+returns c = call_good _ _ c.tested.ensures c.in_ok-tested.was c.trace_in.ensures

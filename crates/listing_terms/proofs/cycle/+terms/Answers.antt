@@ -10,7 +10,7 @@ use Rattle.listing_terms.proofs.Fronts.{whole, before, fronted_as, fronted_then,
 use Rattle.listing_terms.proofs.cycle.+terms.Goals as goal
 
 pub patterns_to_string-loop-i-init : goal.patterns_to_string-loop-i-init
-patterns_to_string-loop-i-init t c = (omega arith, patterns_none _ _ 0 (omega arith))
+patterns_to_string-loop-i-init t c = patterns_none _ _ 0 (omega arith)
 
 pub patterns_to_string-overflow_add-start : goal.patterns_to_string-overflow_add-start
 patterns_to_string-overflow_add-start t c = omega (arith, c.requires.2.ends, c.requires.0.lists_laid.few)
@@ -19,28 +19,19 @@ pub patterns_to_string-field-p-requires : goal.patterns_to_string-field-p-requir
 patterns_to_string-field-p-requires t c = reads_list c.requires.0 (omega (arith, c.requires.2.ends))
 
 pub patterns_to_string-field-first-requires : goal.patterns_to_string-field-first-requires
-patterns_to_string-field-first-requires t c = reads_pattern c.requires.0 0 (omega arith) (rw c.field-p.ensures.is (c.requires.2.each _ c.loop-i-test.true).here)
+patterns_to_string-field-first-requires t c = reads_pattern c.requires.0 0 (omega arith) (rw c.field-p.ensures.is (c.requires.2.each c.loop-i.i (omega arith)).here)
 
 pub patterns_to_string-field-many-requires : goal.patterns_to_string-field-many-requires
-patterns_to_string-field-many-requires t c = reads_pattern c.requires.0 1 (omega arith) (rw c.field-p.ensures.is (c.requires.2.each _ c.loop-i-test.true).here)
+patterns_to_string-field-many-requires t c = reads_pattern c.requires.0 1 (omega arith) (rw c.field-p.ensures.is (c.requires.2.each c.loop-i.i (omega arith)).here)
 
 pub patterns_to_string-rexpr_list_to_string-done-requires : goal.patterns_to_string-rexpr_list_to_string-done-requires
-patterns_to_string-rexpr_list_to_string-done-requires t c = (omega (arith, c.decreases), (c.requires.0, c.requires.1, rw (c.field-first.ensures.is, c.field-many.ensures.is, c.field-p.ensures.is) (c.requires.2.each _ c.loop-i-test.true).range))
-
-pub patterns_to_string-overflow_add-i : goal.patterns_to_string-overflow_add-i
-patterns_to_string-overflow_add-i t c = omega (arith, c.requires.2.ends, c.requires.0.lists_laid.few)
-
-pub patterns_to_string-loop-i-smaller : goal.patterns_to_string-loop-i-smaller
-patterns_to_string-loop-i-smaller t c = omega arith
+patterns_to_string-rexpr_list_to_string-done-requires t c = (omega (arith, c.decreases), (c.requires.0, c.requires.1, rw (c.field-first.ensures.is, c.field-many.ensures.is, c.field-p.ensures.is) (c.requires.2.each c.loop-i.i (omega arith)).range))
 
 pub patterns_to_string-loop-i-preserved : goal.patterns_to_string-loop-i-preserved
-patterns_to_string-loop-i-preserved t c = (omega arith, patterns_more _ _ _ c.well_formed.1.1.1.1.1.0.0 c.loop-i.invariant.1 c.put_at-word.ensures c.field-p.ensures.is c.field-first.ensures.is c.field-many.ensures.is c.rexpr_list_to_string-done.ensures)
-
-pub patterns_to_string-shape_of-out : goal.patterns_to_string-shape_of-out
-patterns_to_string-shape_of-out t c = at_length c.loop-i.invariant.1
+patterns_to_string-loop-i-preserved t c = patterns_more _ _ _ c.well_formed.1.1.1.1.1.0.0 c.loop-i.invariant c.put_at-word.ensures c.field-p.ensures.is c.field-first.ensures.is c.field-many.ensures.is c.rexpr_list_to_string-done.ensures
 
 pub patterns_to_string-returns : goal.patterns_to_string-returns
-patterns_to_string-returns t c = let e : c.loop-i.i ≡ c.args.count = omega arith in rw e at c.loop-i.invariant.1
+patterns_to_string-returns t c = let e : c.loop-i.i ≡ c.args.count = omega arith in rw e at c.loop-i.invariant
 
 pub put_arguments-field-start-requires : goal.put_arguments-field-start-requires
 put_arguments-field-start-requires t c = reads_term c.requires.0 2 (omega arith) c.requires.1
@@ -193,7 +184,7 @@ pub put_quantifier-returns : goal.put_quantifier-returns
 put_quantifier-returns t c = let short = c.well_formed.1.1.1.0.0 in before _ _ (quantifier_is _ _ c.field-first.ensures.is c.field-many.ensures.is c.field-start.ensures.is c.field-count.ensures.is c.field.ensures.is) (at_then short (at_then short (at_then short c.put_quantifier_opening-word.ensures c.bound_vars_to_string-vars.ensures) c.patterns_to_string-patterns.ensures) c.put_at-n.ensures) (omega (arith, c.field.ensures.is, c.requires.2.body))
 
 pub rexpr_list_to_string-loop-i-init : goal.rexpr_list_to_string-loop-i-init
-rexpr_list_to_string-loop-i-init t c = (omega arith, terms_none _ _ 0 (omega arith))
+rexpr_list_to_string-loop-i-init t c = terms_none _ _ 0 (omega arith)
 
 pub rexpr_list_to_string-overflow_add-start : goal.rexpr_list_to_string-overflow_add-start
 rexpr_list_to_string-overflow_add-start t c = omega (arith, c.requires.2.ends, c.requires.0.lists_laid.few)
@@ -202,22 +193,13 @@ pub rexpr_list_to_string-field-t-requires : goal.rexpr_list_to_string-field-t-re
 rexpr_list_to_string-field-t-requires t c = reads_list c.requires.0 (omega (arith, c.requires.2.ends))
 
 pub rexpr_list_to_string-rexpr_to_string-done-requires : goal.rexpr_list_to_string-rexpr_to_string-done-requires
-rexpr_list_to_string-rexpr_to_string-done-requires t c = let l = c.requires.2.below _ c.loop-i-test.true in (omega (arith, c.decreases, c.field-t.ensures.is, l), (c.requires.0, omega (arith, c.field-t.ensures.is, l, c.requires.1)))
-
-pub rexpr_list_to_string-overflow_add-i : goal.rexpr_list_to_string-overflow_add-i
-rexpr_list_to_string-overflow_add-i t c = omega (arith, c.requires.2.ends, c.requires.0.lists_laid.few)
-
-pub rexpr_list_to_string-loop-i-smaller : goal.rexpr_list_to_string-loop-i-smaller
-rexpr_list_to_string-loop-i-smaller t c = omega arith
+rexpr_list_to_string-rexpr_to_string-done-requires t c = let l = c.requires.2.below c.loop-i.i (omega arith) in (omega (arith, c.decreases, c.field-t.ensures.is, l), (c.requires.0, omega (arith, c.field-t.ensures.is, l, c.requires.1)))
 
 pub rexpr_list_to_string-loop-i-preserved : goal.rexpr_list_to_string-loop-i-preserved
-rexpr_list_to_string-loop-i-preserved t c = (omega arith, terms_more _ _ _ c.well_formed.1.1.1.1.1.0.0 c.loop-i.invariant.1 c.put_lead-next.ensures c.field-t.ensures.is c.rexpr_to_string-done.ensures)
-
-pub rexpr_list_to_string-shape_of-out : goal.rexpr_list_to_string-shape_of-out
-rexpr_list_to_string-shape_of-out t c = at_length c.loop-i.invariant.1
+rexpr_list_to_string-loop-i-preserved t c = terms_more _ _ _ c.well_formed.1.1.1.1.1.0.0 c.loop-i.invariant c.put_lead-next.ensures c.field-t.ensures.is c.rexpr_to_string-done.ensures
 
 pub rexpr_list_to_string-returns : goal.rexpr_list_to_string-returns
-rexpr_list_to_string-returns t c = let e : c.loop-i.i ≡ c.args.count = omega arith in rw e at c.loop-i.invariant.1
+rexpr_list_to_string-returns t c = let e : c.loop-i.i ≡ c.args.count = omega arith in rw e at c.loop-i.invariant
 
 pub rexpr_to_string-loop-n-init : goal.rexpr_to_string-loop-n-init
 rexpr_to_string-loop-n-init t c = turning_start (omega arith)

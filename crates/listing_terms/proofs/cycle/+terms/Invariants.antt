@@ -1,4 +1,4 @@
-use Prim.Native.Nat.{◌≤◌, ◌+◌, ◌-◌, ◌*◌}
+use Prim.Native.Nat.{◌+◌, ◌*◌}
 use Rattle.basics.specs.Write.{WroteAt}
 use Rattle.listing_terms.specs.Texts.{terms_text, patterns_text}
 use Rattle.listing_terms.proofs.Fronts.{Turning}
@@ -29,16 +29,10 @@ abbrev pub decreases-rexpr_list_to_string : goal.decreases-rexpr_list_to_string
 decreases-rexpr_list_to_string l = 8 * l.limit + 3
 
 abbrev pub invariant-patterns_to_string-loop-i : goal.invariant-patterns_to_string-loop-i
-invariant-patterns_to_string-loop-i l = (l.i ≤ l.count) × WroteAt (patterns_text l.book l.start l.i) l.at l.initial.out l.out l.done
-
-abbrev pub decreases-patterns_to_string-loop-i : goal.decreases-patterns_to_string-loop-i
-decreases-patterns_to_string-loop-i l = l.count - l.i
+invariant-patterns_to_string-loop-i l = WroteAt (patterns_text l.book l.start l.i) l.at l.initial.out l.out l.done
 
 abbrev pub invariant-rexpr_list_to_string-loop-i : goal.invariant-rexpr_list_to_string-loop-i
-invariant-rexpr_list_to_string-loop-i l = (l.i ≤ l.count) × WroteAt (terms_text l.book l.start l.i) l.at l.initial.out l.out l.done
-
-abbrev pub decreases-rexpr_list_to_string-loop-i : goal.decreases-rexpr_list_to_string-loop-i
-decreases-rexpr_list_to_string-loop-i l = l.count - l.i
+invariant-rexpr_list_to_string-loop-i l = WroteAt (terms_text l.book l.start l.i) l.at l.initial.out l.out l.done
 
 abbrev pub invariant-rexpr_to_string-loop-n : goal.invariant-rexpr_to_string-loop-n
 invariant-rexpr_to_string-loop-n l = Turning l.book l.t l.at l.initial.out l.out l.p l.pending l.done

@@ -1,14 +1,16 @@
-use Rattle.printing.proofs.OperatorCalls.{named, no_name_low, no_name_high}
+use lib.ListN.{length}
+use native.Mathlib.Omega.{arith}
+use Rattle.solver_expr.proofs.Answers.{measured, fitted_long, fitted_done}
+use Rattle.printing.proofs.OperatorCalls.{no_name, a_name}
 use Rattle.printing.proofs.operators.operator.Goals as goal
 
-pub returns-in-1-to-14 : goal.returns-in-1-to-14
-returns-in-1-to-14 c =
-    let e = (named _ _ c.in-1-to-14.if-code-lt1-own.false c.in-1-to-14.if-code-lt15-own.true c.named.ensures) in record { answer = e.0; text = e.1 }
-
 pub returns-in_default : goal.returns-in_default
-returns-in_default c =
-    let e = (no_name_low _ c.in_default.if-code-lt1-own.true) in record { answer = e.0; text = e.1 }
+returns-in_default c = let e = no_name _ _ c.in_default.ensures in record { answer = e.0; text = e.1 }
 
-pub returns-in_default-2 : goal.returns-in_default-2
-returns-in_default-2 c =
-    let e = (no_name_high _ _ c.in_default.if-code-lt15-own.false) in record { answer = e.0; text = e.1 }
+pub returns-then-text-name : goal.returns-then-text-name
+returns-then-text-name c = let e = a_name _ _ _ c.in-Some.ensures (fitted_long _ c.if-text-name.true) in record { answer = e.0; text = e.1 }
+
+pub returns : goal.returns
+returns c =
+    let n = measured {room = length c.args.text.now} c.put_all.ensures.counted (omega arith) (omega (arith, c.well_formed)) in
+    let e = a_name _ _ _ c.in-Some.ensures (fitted_done n (omega arith) c.put_all.ensures) in record { answer = e.0; text = e.1 }
