@@ -1,7 +1,9 @@
 -- What the code of a call returns and leaves, against the definitions.
-use Rattle.std.specs.Prelude.{ℕ, ◌≡◌, List}
-use Rattle.basics.specs.Outcome.{Outcome, map_outcome}
+use Rattle.std.specs.Prelude.{ℕ, ◌≡◌, List, Result, Ok, Err}
+use Rattle.basics.specs.Outcome.{Outcome, refused, accepted, map_outcome}
 use Rattle.basics.specs.Buffer.{buffer_after}
+use Rattle.book.specs.Refusal.{number}
+use Rattle.book.specs.declared.Refusal.{Refusal}
 use Rattle.solvers.specs.declared.Called.{Called}
 use Rattle.solvers.specs.declared.Session.{Session}
 use Rattle.solvers.specs.Session.{Written, text_of}
@@ -26,3 +28,8 @@ pub record Given (o : Outcome Written) (s : Session) (r : Called) (t t' e e' : L
   pub session : r.session ≡ session_after o s
   pub text : t' ≡ buffer_after o text_of t
   pub reason : e' ≡ buffer_after o reason e
+
+-- what the book test answered
+unfoldable pub passed_value : Result (Unit {0}) Refusal → Outcome (Unit {0})
+passed_value (Ok u) = accepted u
+passed_value (Err why) = refused (number why)
