@@ -97,7 +97,7 @@ module _ (s : Session) (w : Written) (t e : List ℕ) {n : ℕ} (m : n ≡ min (
     whole : n ≡ length (text_of w)
     whole = omega arith
 
-    pub reason_long : {k : ℕ} → k ≡ min (length (reason_of w.result)) MOST → length e < k
+    pub reason_long : {k : ℕ} → k ≡ min (0 + length (reason_of w.result)) MOST → length e < k
         → Given (fitting (lent [] t e) w) s (record { answer = Err BufferTooShort; session = s }) t t e e
     unfolding fitting refuse ◌>>◌ number
     reason_long k h =

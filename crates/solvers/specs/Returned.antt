@@ -1,5 +1,8 @@
 -- What the code of a call returns and leaves, against the definitions.
-use Rattle.std.specs.Prelude.{ℕ, ◌≡◌, List, Result, Ok, Err}
+use Rattle.std.specs.Prelude.{ℕ, ◌≡◌, List, Result, Ok, Err, Option, Some, None}
+use Rattle.std.specs.Borrow.{Bor}
+use Rattle.std.proofs.Math.Option as maybe
+use Rattle.basics.specs.Text.{Text}
 use Rattle.basics.specs.Outcome.{Outcome, refused, accepted, map_outcome}
 use Rattle.basics.specs.Buffer.{buffer_after}
 use Rattle.book.specs.Refusal.{number}
@@ -33,3 +36,13 @@ pub record Given (o : Outcome Written) (s : Session) (r : Called) (t t' e e' : L
 unfoldable pub passed_value : Result (Unit {0}) Refusal → Outcome (Unit {0})
 passed_value (Ok u) = accepted u
 passed_value (Err why) = refused (number why)
+
+-- the text behind a reference, where there is one
+unfoldable pub lent_text : Option (Bor Text) → maybe.Option Text
+lent_text None = maybe.none
+lent_text (Some t) = maybe.some t.now
+
+-- a check's reply, or the error of one that failed
+unfoldable pub heard : Result (Bor Text) (Bor Text) → Text
+heard (Ok reply) = reply.now
+heard (Err error) = error.now
