@@ -30,7 +30,7 @@ use Rattle.solvers.specs.declared.Session.{Session}
 use Rattle.solvers.specs.Session.{Written, Proved, Unproved, text_of}
 use Rattle.solvers.specs.Calls.{Call, host_of, call, reason_of, fitting}
 use Rattle.solvers.specs.Left.{answer_value, values_by, values, reason, session_after, left, called}
-use Rattle.solvers.specs.Returned.{lent, Returned, Given, passed_value}
+use Rattle.solvers.specs.Returned.{lent, Returned, Given, outcome_of}
 
 pub given_refused : (o : Outcome Written) (why : Refusal) (s : Session) (t e : List ℕ) → o ≡ refused (number why)
     → Given o s (record { answer = Err why; session = s }) t t e e
@@ -56,21 +56,21 @@ module _ (b : Book) (scratch : List ℕ) {d : Tested} (h : tested_value d ≡ (b
   book_good e = promise b (ready_passed (length scratch) b (passes e)).1
 
 -- the same of a test whose refusal is handed on
-module _ (b : Book) (scratch : List ℕ) {d : Result (Unit {0}) Refusal} (h : passed_value d ≡ (book_test_call b scratch).answer) where
+module _ (b : Book) (scratch : List ℕ) {d : Result (Unit {0}) Refusal} (h : outcome_of d ≡ (book_test_call b scratch).answer) where
   pub refuses : {why : Refusal} → d ≡ Err why → ready (length scratch) b ≡ refused (number why)
-  unfolding book_test_call passed_value
-  refuses e = sym h ∙ ap passed_value e
+  unfolding book_test_call outcome_of
+  refuses e = sym h ∙ ap outcome_of e
 
   pub lets : {u : Unit {0}} → d ≡ Ok u → ready (length scratch) b ≡ accepted tt
-  unfolding book_test_call passed_value
-  lets e = sym h ∙ ap passed_value e
+  unfolding book_test_call outcome_of
+  lets e = sym h ∙ ap outcome_of e
 
   pub lets_good : {u : Unit {0}} → d ≡ Ok u → Promise b
   lets_good e = promise b (ready_passed (length scratch) b (lets e)).1
 
 -- a call behind the book test, with what it gives in a book that passed
 module _ (b : Book) (s : Session) (c : Call) (o : Outcome Written) (is : call b s c ≡ (ready (length (host_of c).scratch) b >> o)) {d : Result (Unit {0}) Refusal} {scratch : List ℕ}
-    (h : (passed_value d ≡ (book_test_call b (host_of c).scratch).answer) × (scratch ≡ (book_test_call b (host_of c).scratch).scratch)) where
+    (h : (outcome_of d ≡ (book_test_call b (host_of c).scratch).answer) × (scratch ≡ (book_test_call b (host_of c).scratch).scratch)) where
   pub call_stops : {why : Refusal} → d ≡ Err why → Returned (called b s c) (record { answer = Err why; session = s }) (host_of c).text (host_of c).reason scratch
   unfolding ◌>>◌ book_test_call
   call_stops {why} e = returned b s c (given_refused (call b s c) why s (host_of c).text (host_of c).reason (rw (is, refuses b (host_of c).scratch h.0 e))) h.1

@@ -32,10 +32,10 @@ pub record Given (o : Outcome Written) (s : Session) (r : Called) (t t' e e' : L
   pub text : t' ≡ buffer_after o text_of t
   pub reason : e' ≡ buffer_after o reason e
 
--- what the book test answered
-unfoldable pub passed_value : Result (Unit {0}) Refusal → Outcome (Unit {0})
-passed_value (Ok u) = accepted u
-passed_value (Err why) = refused (number why)
+-- what a result of the code says
+unfoldable pub outcome_of : {A : Type 0} → Result A Refusal → Outcome A
+outcome_of (Ok a) = accepted a
+outcome_of (Err why) = refused (number why)
 
 -- the text behind a reference, where there is one
 unfoldable pub lent_text : Option (Bor Text) → maybe.Option Text

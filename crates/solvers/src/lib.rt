@@ -2,7 +2,7 @@
 // Solvers.dfy: the session. The definitions are in specs/; the calls are in the crates session_test, moves and replies, the stack rule in stack_rule.
 ghost use Rattle.std.specs.Prelude.{◌≡◌};
 ghost use Rattle.book_test.specs.BookTest.{book_test_call};
-ghost use Rattle.solvers.specs.Returned.{passed_value};
+ghost use Rattle.solvers.specs.Returned.{outcome_of};
 ghost use Rattle.solvers.specs.Session.{fresh_session};
 
 use book::Refusal;
@@ -69,7 +69,7 @@ impl Session {
 
 // The book test, whose refusal a call hands on by `?`.
 pub fn tested(book: &[u8], scratch: &mut [u8]) -> Result<(), Refusal>
-    ensures { (passed_value result ≡ (book_test_call book.now scratch.old).answer) × (scratch.new ≡ (book_test_call book.now scratch.old).scratch) }
+    ensures { (outcome_of result ≡ (book_test_call book.now scratch.old).answer) × (scratch.new ≡ (book_test_call book.now scratch.old).scratch) }
 {
     match book_test(book, scratch) {
         Tested::Good => Ok(()),
