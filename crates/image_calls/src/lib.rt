@@ -1,40 +1,17 @@
 #![tactic(auto)]
-// The calls on a session's byte image, which the host holds: loaded, called, and stored again where the call is accepted.
-ghost use Rattle.std.specs.Prelude.{◌≡◌, [], length};
+// The calls on a session's byte image, which the host holds: loaded, called, and stored again where the call is accepted. A refused call
+// leaves the image as it was.
+ghost use Rattle.std.specs.Prelude.{[], is_ok};
 ghost use Rattle.solvers.specs.Calls.{move_to, ask_for, reply_with, model_with};
-ghost use Rattle.solvers.specs.Image.{image_size, write_image, called_on_image};
-ghost use Rattle.solvers.specs.Returned.{lent};
-ghost use Rattle.basics.specs.Text.{given};
-ghost use Rattle.image_calls.specs.Stored.{Storing, Stored, ImageReturned, FreshImage};
+ghost use Rattle.solvers.specs.Image.{called_on_image};
+ghost use Rattle.solvers.specs.Returned.{lent, lent_text, heard};
+ghost use Rattle.image_calls.specs.Stored.{ImageReturned, FreshImage};
 
+use book::Refusal;
 use images::{IMAGE, load, save};
-use moves::{ask, move_to};
-use replies::{give_model, give_reply};
-use solvers::{Answer, Called, Session};
-
-// The image of the session that an accepted call left.
-fn keep(answer: Answer, session: Session, image: &mut [u8]) -> Answer
-    requires { length image.old ≡ image_size }
-    ensures { (result ≡ answer) × (image.new ≡ write_image session) }
-{
-    save(session, image);
-    answer
-}
-
-// A refused call leaves the image as it was.
-fn store(called: Called, image: &mut [u8]) -> Answer
-    requires { Storing called image.old }
-    ensures { Stored called image.old result image.new }
-{
-    let answer = called.answer;
-    let session = called.session;
-    match answer {
-        Answer::Written(_) => keep(answer, session, image),
-        Answer::Proved(_) => keep(answer, session, image),
-        Answer::Unproved(_, _) => keep(answer, session, image),
-        Answer::Refused(_) => answer,
-    }
-}
+use moves::{ask_mut, move_mut};
+use replies::{model_mut, reply_mut};
+use solvers::{Answer, Session};
 
 pub fn move_image(
     book: &[u8],
@@ -42,12 +19,13 @@ pub fn move_image(
     image: &mut [u8],
     node: u32,
     text: &mut [u8],
-) -> Answer
+) -> Result<Answer, Refusal>
     ensures { ImageReturned (called_on_image book.now image.old (move_to (lent scratch.old text.old []) node)) result image.new text.new [] scratch.new }
 {
-    let session = load(image);
-    let called = move_to(session, book, scratch, node, text);
-    store(called, image)
+    let mut session = load(image);
+    let answer = move_mut(&mut session, book, scratch, node, text)?;
+    save(&session, image);
+    Ok(answer)
 }
 
 pub fn ask_image(
@@ -57,28 +35,29 @@ pub fn ask_image(
     node: u32,
     goal: u32,
     text: &mut [u8],
-) -> Answer
+) -> Result<Answer, Refusal>
     ensures { ImageReturned (called_on_image book.now image.old (ask_for (lent scratch.old text.old []) node goal)) result image.new text.new [] scratch.new }
 {
-    let session = load(image);
-    let called = ask(session, book, scratch, node, goal, text);
-    store(called, image)
+    let mut session = load(image);
+    let answer = ask_mut(&mut session, book, scratch, node, goal, text)?;
+    save(&session, image);
+    Ok(answer)
 }
 
 pub fn reply_image(
     book: &[u8],
     scratch: &mut [u8],
     image: &mut [u8],
-    ok: bool,
-    reply: &[u8],
+    check: Result<&[u8], &[u8]>,
     text: &mut [u8],
     reason: &mut [u8],
-) -> Answer
-    ensures { ImageReturned (called_on_image book.now image.old (reply_with (lent scratch.old text.old reason.old) ok reply.now)) result image.new text.new reason.new scratch.new }
+) -> Result<Answer, Refusal>
+    ensures { ImageReturned (called_on_image book.now image.old (reply_with (lent scratch.old text.old reason.old) (is_ok check.entry) (heard check.entry))) result image.new text.new reason.new scratch.new }
 {
-    let session = load(image);
-    let called = give_reply(session, book, scratch, ok, reply, text, reason);
-    store(called, image)
+    let mut session = load(image);
+    let answer = reply_mut(&mut session, book, scratch, check, text, reason)?;
+    save(&session, image);
+    Ok(answer)
 }
 
 pub fn model_image(
@@ -86,25 +65,25 @@ pub fn model_image(
     scratch: &mut [u8],
     image: &mut [u8],
     reply: &[u8],
-    came: bool,
-    model: &[u8],
+    model: Option<&[u8]>,
     text: &mut [u8],
     reason: &mut [u8],
-) -> Answer
-    ensures { ImageReturned (called_on_image book.now image.old (model_with (lent scratch.old text.old reason.old) reply.now (given came model.now))) result image.new text.new reason.new scratch.new }
+) -> Result<Answer, Refusal>
+    ensures { ImageReturned (called_on_image book.now image.old (model_with (lent scratch.old text.old reason.old) reply.now (lent_text model.entry))) result image.new text.new reason.new scratch.new }
 {
-    let session = load(image);
-    let called = give_model(session, book, scratch, reply, came, model, text, reason);
-    store(called, image)
+    let mut session = load(image);
+    let answer = model_mut(&mut session, book, scratch, reply, model, text, reason)?;
+    save(&session, image);
+    Ok(answer)
 }
 
-// Writes a fresh session's image where there is room for just that, and tells whether it did.
-pub fn fresh_image(image: &mut [u8]) -> bool
+// Writes a fresh session's image where there is room for just that.
+pub fn fresh_image(image: &mut [u8]) -> Result<(), Refusal>
     ensures { FreshImage image.old result image.new }
 {
     if image.len() != IMAGE {
-        return false;
+        return Err(Refusal::NoSession);
     }
-    save(Session::fresh(), image);
-    true
+    save(&Session::fresh(), image);
+    Ok(())
 }

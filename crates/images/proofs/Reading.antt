@@ -10,12 +10,14 @@ use lib.ListN.{length, drop}
 use borrow.Author.Tests.{eq-eqb, ne_eqb, le-leb, lt-leb, lt-ltb, le-ltb}
 use Rattle.book.specs.Book.{word}
 use Rattle.rsolver.specs.LevelState.{no_levels}
-use Rattle.solvers.specs.declared.Owed.{Owed}
 use Rattle.solvers.specs.declared.Owed.TheVariants.{Nothing}
 use Rattle.solvers.specs.declared.Session.{Session}
 use Rattle.solvers.specs.Session.{session}
 use Rattle.solvers.specs.Image.{image_kind, head_size, image_size, owed_values, owed_of, levels_in, no_session, is_kind, is_image, read_image}
 use Rattle.solvers.proofs.Head.{kind_told}
+use Rattle.std.specs.Prelude.{Option, Some, None}
+use Rattle.images.specs.declared.Head.{Head}
+use Rattle.images.specs.Heads.{head_at, ReadHead}
 
 -- every other number
 pub owed_other : (n : ℕ) → ¬ (n ≡ 1) → ¬ (n ≡ 2) → Nothing ≡ owed_of n
@@ -58,7 +60,17 @@ pub read_none : (image : List ℕ) {s : Session} → is_image image ≡ false �
 unfolding read_image
 read_none image h e = rw h e
 
-pub read_some : (image : List ℕ) {node goal owed : ℕ} {o : Owed} {levels : List ℕ} → is_image image ≡ true → node ≡ word image 4 → goal ≡ word image 8
-    → owed ≡ word image 12 → o ≡ owed_of owed → levels ≡ levels_in (drop head_size image) → session node goal o levels ≡ read_image image
+pub read_some : (image : List ℕ) {h : Head} {levels : List ℕ} → is_image image ≡ true → h ≡ head_at image → levels ≡ levels_in (drop head_size image)
+    → session h.node h.goal h.owed levels ≡ read_image image
 unfolding read_image
-read_some image h n g w o l = rw h (λ i. session (n i) (g i) ((o ∙ ap owed_of w) i) (l i))
+read_some image h e l = rw h (λ i. session (e i).node (e i).goal (e i).owed (l i))
+
+-- what the head says
+module _ (image : List ℕ) {r : Option Head} (t : ReadHead image_kind image_size image r) where
+  pub head_none : r ≡ None → is_image image ≡ false
+  unfolding is_image ReadHead
+  head_none e = rw e at t
+
+  pub head_told : {h : Head} → r ≡ Some h → (is_image image ≡ true) × (h ≡ head_at image)
+  unfolding is_image ReadHead
+  head_told e = rw e at t

@@ -1,67 +1,60 @@
 #![tactic(auto)]
 // The byte image of a session, which the host holds (docs/SESSION.md): kind, node, goal and what is owed, then two bytes for each level.
 // The narrow kind has the same four words.
-ghost use Rattle.std.specs.Prelude.{◌≡◌, ◌++◌, ◌+◌, ◌*◌, ◌%◌, ◌<◌, ◌≤◌, length, get_or, take, drop};
+ghost use Rattle.std.specs.Prelude.{◌≡◌, ◌++◌, ◌+◌, ◌*◌, ◌≤◌, length, get_or, take, drop};
 ghost use Rattle.basics.specs.Write.{WroteAt};
 ghost use Rattle.book.specs.Book.{word};
 ghost use Rattle.rsolver.specs.LevelState.{level_count};
-ghost use Rattle.solvers.specs.Image.{image_size, head_size, owed_number, owed_of, head_of, level_bytes, levels_in, no_session, is_kind, is_image, read_image, write_image};
+ghost use Rattle.solvers.specs.Image.{image_size, head_size, owed_of, head_of, level_bytes, levels_in, no_session, is_kind, read_image, write_image};
+ghost use Rattle.images.specs.Heads.{ReadHead};
 
 use basics::put_word;
 use session_levels::{LEVEL_COUNT, Level};
-use solvers::{Owed, Session};
+use solvers::{NO_GOAL, Owed, Session};
 
 // The words of an image, and what stands behind them.
 const KIND_AT: usize = 0;
 
-pub const NODE_AT: usize = 4;
+const NODE_AT: usize = 4;
 
-pub const GOAL_AT: usize = 8;
+const GOAL_AT: usize = 8;
 
-pub const OWED_AT: usize = 12;
+const OWED_AT: usize = 12;
 
 pub const LEVELS_AT: usize = 16;
 
-// A level's bytes, and as many values as one byte has.
+// A level's bytes.
 const LEVEL_BYTES: usize = 2;
-
-const BYTE: Level = 0x100;
 
 pub const IMAGE: usize = LEVELS_AT + LEVEL_BYTES * LEVEL_COUNT;
 
 // The layout with two bytes for each level.
 const KIND: u32 = 2;
 
-// What is owed. No number is larger than the last.
-const NOTHING: u32 = 0;
+// What is owed, as a number. No number is larger than the last.
+const REPLY: u32 = Owed::Reply as u32;
 
-const REPLY: u32 = 1;
-
-const MODEL: u32 = 2;
+const MODEL: u32 = Owed::Model as u32;
 
 // The session of an image that is none: no book has its node.
 pub const NO_NODE: u32 = 0xFFFF_FFFF;
 
-pub const NO_GOAL: u32 = 0;
+// What the words behind the kind say, in an image of either kind.
+#[derive(Clone, Copy)]
+pub struct Head {
+    pub node: u32,
+    pub goal: u32,
+    pub owed: Owed,
+}
 
-pub fn word(image: &[u8], at: usize) -> u32
+fn word(image: &[u8], at: usize) -> u32
     requires { at + 4 ≤ length image.now }
     ensures { result ≡ word image.now at }
 {
     book::word(image, at) as u32
 }
 
-fn owed_number(owed: Owed) -> u32
-    ensures { result ≡ owed_number owed }
-{
-    match owed {
-        Owed::Nothing => NOTHING,
-        Owed::Reply => REPLY,
-        Owed::Model => MODEL,
-    }
-}
-
-pub fn owed_of(n: u32) -> Owed
+fn owed_of(n: u32) -> Owed
     ensures { result ≡ owed_of n }
 {
     match n {
@@ -72,42 +65,37 @@ pub fn owed_of(n: u32) -> Owed
 }
 
 // Bytes of this kind and size, with a known number for what is owed.
-pub fn is_kind(image: &[u8], kind: u32, size: usize) -> bool
+fn is_kind(image: &[u8], kind: u32, size: usize) -> bool
     requires { head_size ≤ size }
     ensures { result ≡ is_kind kind size image.now }
 {
-    if image.len() != size {
-        return false;
-    }
-    if word(image, KIND_AT) != kind {
-        return false;
-    }
-    word(image, OWED_AT) <= MODEL
+    image.len() == size && word(image, KIND_AT) == kind && word(image, OWED_AT) <= MODEL
 }
 
-fn is_image(image: &[u8]) -> bool
-    ensures { result ≡ is_image image.now }
+// The head of an image of this kind and size; none of other bytes.
+pub fn read_head(image: &[u8], kind: u32, size: usize) -> Option<Head>
+    requires { head_size ≤ size }
+    ensures { ReadHead kind size image.now result }
 {
-    is_kind(image, KIND, IMAGE)
+    if !is_kind(image, kind, size) {
+        return None;
+    }
+    Some(Head {
+        node: word(image, NODE_AT),
+        goal: word(image, GOAL_AT),
+        owed: owed_of(word(image, OWED_AT)),
+    })
 }
 
-pub fn no_session() -> Session
+fn no_session() -> Session
     ensures { result ≡ no_session }
 {
-    let levels = session_levels::blank();
     Session {
         node: NO_NODE,
         goal: NO_GOAL,
         owed: Owed::Nothing,
-        levels: levels,
+        levels: session_levels::blank(),
     }
-}
-
-// That a byte is below 256 has to be told, so that two of them fit a level.
-pub fn wide(x: u8) -> Level
-    ensures { (result ≡ x) × (result < 256) }
-{
-    x as Level
 }
 
 // The level whose bytes stand at a place, the low one first.
@@ -115,7 +103,7 @@ fn level_at(image: &[u8], at: usize) -> Level
     requires { at + 2 ≤ length image.now }
     ensures { result ≡ get_or image.now at 0 + 256 * get_or image.now (at + 1) 0 }
 {
-    wide(image[at]) + BYTE * wide(image[at + 1])
+    Level::from_le_bytes([image[at], image[at + 1]])
 }
 
 fn levels_of(image: &[u8]) -> [Level; LEVEL_COUNT]
@@ -123,71 +111,60 @@ fn levels_of(image: &[u8]) -> [Level; LEVEL_COUNT]
     ensures { result ≡ levels_in (drop head_size image.now) }
 {
     let mut levels = session_levels::blank();
-    let mut i = 0;
-    while i < LEVEL_COUNT {
-        levels[i] = level_at(image, LEVELS_AT + LEVEL_BYTES * i);
-        i += 1;
+    for (i, level) in levels.iter_mut().enumerate() {
+        *level = level_at(image, LEVELS_AT + LEVEL_BYTES * i);
     }
     levels
 }
 
-// Any bytes are read. Those that are no image give a session that every call refuses.
+// Any bytes are read. Those that are no image give a session that every call refuses, and no `None`: the refusals of the book and of the
+// call's numbers come before it.
 pub fn load(image: &[u8]) -> Session
     ensures { result ≡ read_image image.now }
 {
-    if !is_image(image) {
+    let Some(head) = read_head(image, KIND, IMAGE) else {
         return no_session();
-    }
-    let node = word(image, NODE_AT);
-    let goal = word(image, GOAL_AT);
-    let owed = owed_of(word(image, OWED_AT));
-    let levels = levels_of(image);
+    };
     Session {
-        node: node,
-        goal: goal,
-        owed: owed,
-        levels: levels,
+        node: head.node,
+        goal: head.goal,
+        owed: head.owed,
+        levels: levels_of(image),
     }
 }
 
 // Writes the four words, and answers the place behind them.
-pub fn put_head(kind: u32, node: u32, goal: u32, owed: Owed, image: &mut [u8]) -> usize
-    ensures { WroteAt (head_of kind node goal owed) 0 image.old image.new result }
+pub fn put_head(kind: u32, head: Head, image: &mut [u8]) -> usize
+    ensures { WroteAt (head_of kind head.node head.goal head.owed) 0 image.old image.new result }
 {
     let node_at = put_word(kind as usize, KIND_AT, image);
-    let goal_at = put_word(node as usize, node_at, image);
-    let owed_at = put_word(goal as usize, goal_at, image);
-    put_word(owed_number(owed) as usize, owed_at, image)
+    let goal_at = put_word(head.node as usize, node_at, image);
+    let owed_at = put_word(head.goal as usize, goal_at, image);
+    put_word(head.owed as usize, owed_at, image)
 }
 
-// A number's lowest byte.
-fn byte(x: Level) -> u8
-    ensures { result ≡ x % 256 }
-{
-    (x % BYTE) as u8
-}
-
-// Writes the levels behind the head, the low byte of each first.
+// Writes the levels behind the head, the low byte of each first. By index: of what `chunks_exact_mut` lends a proof knows only the length.
 fn put_levels(levels: &[Level], image: &mut [u8])
     requires { (length levels.now ≡ level_count) × (length image.old ≡ image_size) }
     ensures { image.new ≡ take head_size image.old ++ level_bytes levels.now }
 {
-    let mut i = 0;
-    while i < LEVEL_COUNT {
-        let level = levels[i];
+    for (i, level) in levels.iter().enumerate() {
+        let [low, high] = level.to_le_bytes();
         let at = LEVELS_AT + LEVEL_BYTES * i;
-        image[at] = byte(level);
-        image[at + 1] = byte(level / BYTE);
-        i += 1;
+        image[at] = low;
+        image[at + 1] = high;
     }
 }
 
-pub fn save(s: Session, image: &mut [u8])
+pub fn save(s: &Session, image: &mut [u8])
     requires { length image.old ≡ image_size }
-    ensures { image.new ≡ write_image s }
+    ensures { image.new ≡ write_image s.now }
 {
-    let owed = s.owed;
-    let levels = s.levels;
-    put_head(KIND, s.node, s.goal, owed, image);
-    put_levels(&levels, image);
+    let head = Head {
+        node: s.node,
+        goal: s.goal,
+        owed: s.owed,
+    };
+    put_head(KIND, head, image);
+    put_levels(&s.levels, image);
 }

@@ -1,38 +1,34 @@
 -- The call move, by the first refusal that holds.
-use Prim.Native.Nat.{ℕ, ◌≤◌, ◌<◌, min}
-use mathlib.Core.Path.{◌≡◌, refl, sym, ap, ◌∙◌}
-use mathlib.Core.Bool.{Bool, true, false, not, ◌||◌}
+use Prim.Native.Nat.{ℕ, ◌≤◌, ◌<◌}
+use mathlib.Core.Path.{◌≡◌, refl, sym, ◌∙◌}
+use mathlib.Core.Bool.{Bool, true, false}
 use mathlib.Core.List.{List, []}
 use mathlib.Core.Option.{none}
-use lib.Dec.{leb, ltb}
+use mathlib.Core.Logic.{◌⊎◌, inl, inr}
 use lib.ListN.{length}
-use borrow.Author.Tests.{lt-ltb, le-ltb, le-leb, lt-leb}
-use Rattle.basics.specs.Outcome.{Outcome, refused, accepted, refuse, ◌>>◌}
-use Rattle.basics.specs.Buffer.{overlay}
+use borrow.Author.Tests.{lt-ltb, le-ltb}
+use Rattle.basics.specs.Outcome.{refuse, ◌>>◌}
 use Rattle.basics.specs.Write.{MOST}
 use Rattle.book.specs.Refusal.{number}
-use Rattle.book.specs.declared.Refusal.{Refusal}
 use Rattle.book.specs.declared.Refusal.TheVariants.{NotInBook, MissingAxiom, BufferTooShort, NoSession, QuestionOpen}
-use Rattle.book.specs.Book.{Book, terms, contexts, size}
-use Rattle.book.specs.Decode.{term, program}
+use Rattle.book.specs.Book.{Book, contexts, size}
+use Rattle.book.specs.Decode.{program}
 use Rattle.book_test.specs.BookTest.{ready}
-use Rattle.smt_engines.specs.Command.{Command, script}
-use Rattle.rsolver.specs.LevelState.{LevelState}
 use Rattle.levels.specs.declared.Progress.{Progress}
 use Rattle.engine.specs.Engine.{state_at}
 use Rattle.solvers.specs.declared.Called.{Called}
-use Rattle.solvers.specs.declared.Owed.{Owed}
 use Rattle.solvers.specs.declared.Owed.TheVariants.{Nothing, Reply, Model}
 use Rattle.solvers.specs.declared.Session.{Session}
+use Rattle.std.specs.Prelude.{Ok, Err}
 use Rattle.solvers.specs.declared.Answer.TheVariants as answer
 use Rattle.solvers.specs.Session.{Written, session, text_of}
-use Rattle.solvers.specs.Calls.{owes, is_session, Host, fitting, move_to, ask_for, call}
-use Rattle.solvers.specs.Rule.{standing, goal_state, move_commands, question_commands, present, session_at}
-use Rattle.solvers.specs.ByBook.{move_by_book, ask_by_book, call_by_book}
+use Rattle.solvers.specs.Calls.{owes, is_session, fitting, move_to, call}
+use Rattle.solvers.specs.Rule.{move_commands, present, session_at}
+use Rattle.solvers.specs.ByBook.{move_by_book, call_by_book}
 use Rattle.solvers.specs.Returned.{lent, Given}
 use Rattle.solvers.proofs.ByBook.{by_book}
 use Rattle.solvers.proofs.Returned.{given_refused, text_long, written}
-use Rattle.moves.specs.Moves.{Measured, Arrived, ask_commands, move_known, move_in, ask_known, ask_in}
+use Rattle.moves.specs.Moves.{Measured, Arrived, move_known, move_in}
 
 module _ (b : Book) (s : Session) (node : ℕ) where
   -- the session that is left
@@ -44,46 +40,43 @@ module _ (b : Book) (s : Session) (node : ℕ) where
   left = record { commands = move_commands (program b) s.node node; session = session_at b (present node 0 Nothing); result = none }
 
   module _ (t : List ℕ) {m : Progress} (M : Measured (move_commands (program b) s.node node) (state_at b node) m) where
-    pub lacking : {r : Called} → m.missing ≡ true → r ≡ record { answer = answer.Refused MissingAxiom; session = s } → Given (move_known b s.node (lent [] t []) node) s r t t [] []
+    pub lacking : m.missing ≡ true → Given (move_known b s.node (lent [] t []) node) s (record { answer = Err MissingAxiom; session = s }) t t [] []
     unfolding move_known refuse ◌>>◌ number
-    lacking h q = rw q (given_refused (move_known b s.node (lent [] t []) node) MissingAxiom s t [] (rw (sym M.missing ∙ h)))
+    lacking h = given_refused (move_known b s.node (lent [] t []) node) MissingAxiom s t [] (rw (sym M.missing ∙ h))
 
     fitted : m.missing ≡ false → move_known b s.node (lent [] t []) node ≡ fitting (lent [] t []) left
     unfolding move_known refuse ◌>>◌ left
     fitted h = rw (sym M.missing ∙ h)
 
-    pub too_long : {r : Called} → m.missing ≡ false → length t < m.at → r ≡ record { answer = answer.Refused BufferTooShort; session = s } → Given (move_known b s.node (lent [] t []) node) s r t t [] []
+    pub too_long : m.missing ≡ false → length t < m.at → Given (move_known b s.node (lent [] t []) node) s (record { answer = Err BufferTooShort; session = s }) t t [] []
     unfolding text_of left
-    too_long h l q = rw (fitted h) (text_long s left t [] M.counted l q)
+    too_long h l = rw (fitted h) (text_long s left t [] M.counted l)
 
     pub done : {q : Session} {t' : List ℕ} → m.missing ≡ false → m.at ≤ length t → length t < MOST → Arrived (move_commands (program b) s.node node) (session_at b (present node 0 Nothing)) q t t'
-        → Given (move_known b s.node (lent [] t []) node) s (record { answer = answer.Written m.at; session = q }) t t' [] []
+        → Given (move_known b s.node (lent [] t []) node) s (record { answer = Ok (answer.Written m.at); session = q }) t t' [] []
     unfolding text_of left
     done h l short a = rw (fitted h) (written s left t [] M.counted l short a.text a.is refl)
 
   -- in a book that passed its test
   module _ (t : List ℕ) where
-    pub not_here : {r : Called} → size b contexts < node → r ≡ record { answer = answer.Refused NotInBook; session = s } → Given (move_in b s (lent [] t []) node) s r t t [] []
+    pub not_here : size b contexts < node → Given (move_in b s (lent [] t []) node) s (record { answer = Err NotInBook; session = s }) t t [] []
     unfolding move_in refuse ◌>>◌ number
-    not_here h q = rw q (given_refused (move_in b s (lent [] t []) node) NotInBook s t [] (rw (lt-ltb (size b contexts) node h)))
+    not_here h = given_refused (move_in b s (lent [] t []) node) NotInBook s t [] (rw (lt-ltb (size b contexts) node h))
 
     module _ (here : node ≤ size b contexts) where
-      pub not_session : {r : Called} {x : Bool} → x ≡ is_session (program b) s → x ≡ false → r ≡ record { answer = answer.Refused NoSession; session = s } → Given (move_in b s (lent [] t []) node) s r t t [] []
+      pub not_session : {x : Bool} → x ≡ is_session (program b) s → x ≡ false → Given (move_in b s (lent [] t []) node) s (record { answer = Err NoSession; session = s }) t t [] []
       unfolding move_in refuse ◌>>◌ number
-      not_session e f q = rw q (given_refused (move_in b s (lent [] t []) node) NoSession s t [] (rw (le-ltb (size b contexts) node here, sym e ∙ f)))
+      not_session e f = given_refused (move_in b s (lent [] t []) node) NoSession s t [] (rw (le-ltb (size b contexts) node here, sym e ∙ f))
 
       module _ {x : Bool} (e : x ≡ is_session (program b) s) (f : x ≡ true) where
-        question_open : {r : Called} → owes s.owed Nothing ≡ false → r ≡ record { answer = answer.Refused QuestionOpen; session = s } → Given (move_in b s (lent [] t []) node) s r t t [] []
+        question_open : owes s.owed Nothing ≡ false → Given (move_in b s (lent [] t []) node) s (record { answer = Err QuestionOpen; session = s }) t t [] []
         unfolding move_in refuse ◌>>◌ number
-        question_open h q = rw q (given_refused (move_in b s (lent [] t []) node) QuestionOpen s t [] (rw (le-ltb (size b contexts) node here, sym e ∙ f, h)))
+        question_open h = given_refused (move_in b s (lent [] t []) node) QuestionOpen s t [] (rw (le-ltb (size b contexts) node here, sym e ∙ f, h))
 
-        pub reply-owed : {r : Called} → s.owed ≡ Reply → r ≡ record { answer = answer.Refused QuestionOpen; session = s } → Given (move_in b s (lent [] t []) node) s r t t [] []
+        pub not_free : (s.owed ≡ Reply) ⊎ (s.owed ≡ Model) → Given (move_in b s (lent [] t []) node) s (record { answer = Err QuestionOpen; session = s }) t t [] []
         unfolding owes
-        reply-owed h q = question_open (rw h) q
-
-        pub model-owed : {r : Called} → s.owed ≡ Model → r ≡ record { answer = answer.Refused QuestionOpen; session = s } → Given (move_in b s (lent [] t []) node) s r t t [] []
-        unfolding owes
-        model-owed h q = question_open (rw h) q
+        not_free (inl h) = question_open (rw h)
+        not_free (inr h) = question_open (rw h)
 
         known : s.owed ≡ Nothing → move_in b s (lent [] t []) node ≡ move_known b s.node (lent [] t []) node
         unfolding move_in refuse ◌>>◌ owes

@@ -1,7 +1,7 @@
 #![tactic(auto)]
-// The calls move and ask.
+// The calls move and ask, on a session behind a reference and by value.
 mod asking;
 mod moving;
 
-pub use asking::ask;
-pub use moving::move_to;
+pub use asking::{ask, ask_mut};
+pub use moving::{move_mut, move_to};

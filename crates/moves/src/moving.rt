@@ -12,84 +12,93 @@ ghost use Rattle.moves.specs.Moves.{Mover, Measured, Arrived, move_known, move_i
 
 use book::format::CONTEXTS;
 use book::{Refusal, count};
-use book_test::{Tested, book_test};
 use engine::set_context;
 use levels::Progress;
 use session_test::is_session;
-use solvers::{Answer, Called, Owed, Session};
-
-// The goal where no question is open.
-const NO_GOAL: u32 = 0;
+use solvers::{Answer, Called, NO_GOAL, Owed, Session, tested};
 
 // The text on an empty slice: its length, and whether an axiom is missing.
-fn measure(session: Session, book: &[u8], node: u32) -> Progress
-    requires { Mover book.now session node }
-    ensures { Measured (move_commands (program book.now) session.node node) (state_at book.now node) result }
+fn measure(session: &Session, book: &[u8], node: u32) -> Progress
+    requires { Mover book.now session.now node }
+    ensures { Measured (move_commands (program book.now) session.now.node node) (state_at book.now node) result }
 {
     let mut levels = session.levels;
-    let mut nowhere = [0; 0];
     let from = session.node as usize;
-    set_context(book, from, node as usize, &mut levels, &mut nowhere)
+    set_context(book, from, node as usize, &mut levels, &mut [])
 }
 
-// Writes the text, and gives the session at the node.
-fn arrive(session: Session, book: &[u8], node: u32, text: &mut [u8]) -> Session
-    requires { Mover book.now session node }
-    ensures { Arrived (move_commands (program book.now) session.node node) (session_at book.now (present node 0 Nothing)) result text.old text.new }
+// Writes the text, and leaves the session at the node.
+fn arrive(session: &mut Session, book: &[u8], node: u32, text: &mut [u8])
+    requires { Mover book.now session.old node }
+    ensures { Arrived (move_commands (program book.now) session.old.node node) (session_at book.now (present node 0 Nothing)) session.new text.old text.new }
 {
-    let mut levels = session.levels;
     let from = session.node as usize;
-    set_context(book, from, node as usize, &mut levels, text);
-    Session {
-        node: node,
-        goal: NO_GOAL,
-        owed: Owed::Nothing,
-        levels: levels,
-    }
+    set_context(book, from, node as usize, &mut session.levels, text);
+    session.node = node;
+    session.goal = NO_GOAL;
+    session.owed = Owed::Nothing;
 }
 
 // In a session of this book with no open question. The text is measured before the buffer is touched.
-fn move_known(session: Session, book: &[u8], node: u32, text: &mut [u8]) -> Called
-    requires { Mover book.now session node }
-    ensures { Given (move_known book.now session.node (lent [] text.old []) node) session result text.old text.new [] [] }
+fn move_known(
+    session: &mut Session,
+    book: &[u8],
+    node: u32,
+    text: &mut [u8],
+) -> Result<Answer, Refusal>
+    requires { Mover book.now session.old node }
+    ensures { Given (move_known book.now session.old.node (lent [] text.old []) node) session.old (record { answer = result; session = session.new }) text.old text.new [] [] }
 {
     let measured = measure(session, book, node);
     if measured.missing {
-        return Called::refused(Refusal::MissingAxiom, session);
+        return Err(Refusal::MissingAxiom);
     }
-    let length = measured.at;
-    if text.len() < length {
-        return Called::refused(Refusal::BufferTooShort, session);
+    if text.len() < measured.at {
+        return Err(Refusal::BufferTooShort);
     }
-    let there = arrive(session, book, node, text);
-    Called {
-        answer: Answer::Written(length),
-        session: there,
-    }
+    arrive(session, book, node, text);
+    Ok(Answer::Written(measured.at))
 }
 
 // In a book that passed its test.
-fn move_in(session: Session, book: &[u8], node: u32, text: &mut [u8]) -> Called
+fn move_in(
+    session: &mut Session,
+    book: &[u8],
+    node: u32,
+    text: &mut [u8],
+) -> Result<Answer, Refusal>
     requires { Promise book.now }
-    ensures { Given (move_in book.now session (lent [] text.old []) node) session result text.old text.new [] [] }
+    ensures { Given (move_in book.now session.old (lent [] text.old []) node) session.old (record { answer = result; session = session.new }) text.old text.new [] [] }
 {
     if count(book, CONTEXTS) < node as usize {
-        return Called::refused(Refusal::NotInBook, session);
+        return Err(Refusal::NotInBook);
     }
-    if !is_session(book, session) {
-        return Called::refused(Refusal::NoSession, session);
+    if !is_session(book, *session) {
+        return Err(Refusal::NoSession);
     }
-    let owed = session.owed;
-    match owed {
+    match session.owed {
         Owed::Nothing => move_known(session, book, node, text),
-        Owed::Reply => Called::refused(Refusal::QuestionOpen, session),
-        Owed::Model => Called::refused(Refusal::QuestionOpen, session),
+        Owed::Reply | Owed::Model => Err(Refusal::QuestionOpen),
     }
 }
 
-// Any session, book, scratch, node and text buffer are taken.
+// Any session, book, scratch, node and text buffer are taken. A refused call leaves the session as it was.
+pub fn move_mut(
+    session: &mut Session,
+    book: &[u8],
+    scratch: &mut [u8],
+    node: u32,
+    text: &mut [u8],
+) -> Result<Answer, Refusal>
+    ensures { Returned (called book.now session.old (move_to (lent scratch.old text.old []) node)) (record { answer = result; session = session.new }) text.new [] scratch.new }
+{
+    tested(book, scratch)?;
+    move_in(session, book, node, text)
+}
+
+// The same by value.
 pub fn move_to(
-    session: Session,
+    mut session: Session,
     book: &[u8],
     scratch: &mut [u8],
     node: u32,
@@ -97,8 +106,6 @@ pub fn move_to(
 ) -> Called
     ensures { Returned (called book.now session (move_to (lent scratch.old text.old []) node)) result text.new [] scratch.new }
 {
-    match book_test(book, scratch) {
-        Tested::Refused(why) => Called::refused(why, session),
-        Tested::Good => move_in(session, book, node, text),
-    }
+    let answer = move_mut(&mut session, book, scratch, node, text);
+    Called { answer, session }
 }

@@ -1,13 +1,13 @@
 -- The turns by value: the first refusal that holds, or the session as the other kind.
 use Prim.Native.Nat.{ℕ, ◌≤◌, ◌<◌}
 use native.Mathlib.Omega.{arith}
-use mathlib.Core.Path.{◌≡◌, refl, sym, ap, ◌∙◌}
+use mathlib.Core.Path.{◌≡◌, refl, sym, ◌∙◌}
 use mathlib.Core.Bool.{Bool, true, false}
 use mathlib.Core.List.{List}
 use lib.Dec.{ltb}
 use lib.ListN.{length}
 use borrow.Author.Tests.{le-leb, lt-leb, ltb-true, ltb-false}
-use Rattle.basics.specs.Outcome.{Outcome, refused, accepted, refuse, ◌>>◌}
+use Rattle.basics.specs.Outcome.{Outcome, refuse, ◌>>◌}
 use Rattle.basics.specs.Buffer.{scratch_after}
 use Rattle.basics.proofs.All.{all-at}
 use Rattle.book.specs.Refusal.{number}
@@ -16,57 +16,48 @@ use Rattle.book.specs.declared.Refusal.TheVariants.{NoSession, TooDeepForNarrow}
 use Rattle.book.specs.Book.{Book}
 use Rattle.book.specs.Program.{depth}
 use Rattle.book.specs.Decode.{program}
-use Rattle.book_test.specs.BookTest.{ready, tested_value, book_test_call}
+use Rattle.book_test.specs.BookTest.{ready, book_test_call}
 use Rattle.book_test.specs.Promise.{Promise}
-use Rattle.book_test.specs.declared.Tested.{Tested}
-use Rattle.book_test.specs.declared.Tested.TheVariants as tested
+use Rattle.std.specs.Prelude.{Result, Ok, Err}
 use Rattle.contexts.specs.Path.{IsNode}
 use Rattle.solvers.specs.declared.Session.{Session}
 use Rattle.solvers.specs.declared.NarrowSession.{NarrowSession}
 use Rattle.solvers.specs.Calls.{is_session}
 use Rattle.solvers.specs.Image.{no_session}
 use Rattle.solvers.specs.Narrow.{narrow_depth, wide_of, narrow_of, is_narrow, widened, narrowed, no_narrow, Turned, answer_of, or_else, widen_call, narrow_call, Bytes}
-use Rattle.solvers.proofs.Returned.{stops, passes}
+use Rattle.solvers.proofs.Returned.{refuses, lets}
+use Rattle.solvers.specs.Returned.{outcome_of}
 use Rattle.solvers.proofs.IsSession.{stands, within_depth}
-use Rattle.narrow_sessions.specs.Turned.{widened_in, narrowed_in, Given, TurnReturned}
-
-module _ {S : Type 0} {o : Outcome S} {none : S} where
-  gives_refusal : {why : Refusal} {a : Tested} {s : S} → o ≡ refused (number why) → (a ≡ tested.Refused why) × (s ≡ none) → Given o none a s
-  unfolding tested_value answer_of or_else
-  gives_refusal e q = record { answer = rw e (ap tested_value q.0); session = rw e q.1 }
-
-  gives : {s : S} → o ≡ accepted s → Given o none tested.Good s
-  unfolding tested_value answer_of or_else
-  gives e = record { answer = rw e; session = rw e }
+use Rattle.narrow_sessions.specs.Turned.{widened_in, narrowed_in, TurnReturned}
 
 -- ---- wide
 module _ (b : Book) (s : NarrowSession) {w : Session} (e : w ≡ wide_of s) where
-  pub widen_outside : {a : Tested} {q : Session} → is_session (program b) w ≡ false → (a ≡ tested.Refused NoSession) × (q ≡ no_session) → Given (widened_in b s) no_session a q
-  widen_outside h = gives_refusal (unfold widened_in is_narrow refuse ◌>>◌ number in rw (rw e at h))
+  pub widen_outside : is_session (program b) w ≡ false → outcome_of (Err NoSession) ≡ widened_in b s
+  widen_outside h = unfold outcome_of widened_in is_narrow refuse ◌>>◌ number in rw (rw e at h)
 
-  pub widen_deep : {a : Tested} {q : Session} {x : Bool} → is_session (program b) w ≡ true → x ≡ ltb narrow_depth (depth (program b) w.node) → x ≡ true
-      → (a ≡ tested.Refused NoSession) × (q ≡ no_session) → Given (widened_in b s) no_session a q
+  pub widen_deep : {x : Bool} → is_session (program b) w ≡ true → x ≡ ltb narrow_depth (depth (program b) w.node) → x ≡ true
+      → outcome_of (Err NoSession) ≡ widened_in b s
   widen_deep h k t =
       let deep : narrow_depth < depth (program b) s.node = unfold wide_of in rw e at (ltb-true narrow_depth (depth (program b) w.node) (sym k ∙ t)) in
-      gives_refusal (unfold widened_in is_narrow refuse ◌>>◌ number in rw (rw e at h, lt-leb (depth (program b) s.node) narrow_depth deep))
+      unfold outcome_of widened_in is_narrow refuse ◌>>◌ number in rw (rw e at h, lt-leb (depth (program b) s.node) narrow_depth deep)
 
-  pub widen_done : {x : Bool} → is_session (program b) w ≡ true → x ≡ ltb narrow_depth (depth (program b) w.node) → x ≡ false → Given (widened_in b s) no_session tested.Good w
+  pub widen_done : {x : Bool} → is_session (program b) w ≡ true → x ≡ ltb narrow_depth (depth (program b) w.node) → x ≡ false → outcome_of (Ok w) ≡ widened_in b s
   widen_done h k t =
       let shallow : depth (program b) s.node ≤ narrow_depth = unfold wide_of in rw e at (ltb-false narrow_depth (depth (program b) w.node) (sym k ∙ t)) in
-      rw e (gives (unfold widened_in is_narrow refuse ◌>>◌ in rw (rw e at h, le-leb (depth (program b) s.node) narrow_depth shallow)))
+      unfold outcome_of widened_in is_narrow refuse ◌>>◌ in rw (e, rw e at h, le-leb (depth (program b) s.node) narrow_depth shallow)
 
 -- ---- back
 module _ (b : Book) (w : Session) where
-  pub narrow_outside : {a : Tested} {q : NarrowSession} → is_session (program b) w ≡ false → (a ≡ tested.Refused NoSession) × (q ≡ no_narrow) → Given (narrowed_in b w) no_narrow a q
-  narrow_outside h = gives_refusal (unfold narrowed_in refuse ◌>>◌ number in rw h)
+  pub narrow_outside : is_session (program b) w ≡ false → outcome_of (Err NoSession) ≡ narrowed_in b w
+  narrow_outside h = unfold outcome_of narrowed_in refuse ◌>>◌ number in rw h
 
-  pub narrow_deep : {a : Tested} {q : NarrowSession} {x : Bool} → is_session (program b) w ≡ true → x ≡ ltb narrow_depth (depth (program b) w.node) → x ≡ true
-      → (a ≡ tested.Refused TooDeepForNarrow) × (q ≡ no_narrow) → Given (narrowed_in b w) no_narrow a q
-  narrow_deep h k t = gives_refusal (unfold narrowed_in refuse ◌>>◌ number in rw (h, sym k ∙ t))
+  pub narrow_deep : {x : Bool} → is_session (program b) w ≡ true → x ≡ ltb narrow_depth (depth (program b) w.node) → x ≡ true
+      → outcome_of (Err TooDeepForNarrow) ≡ narrowed_in b w
+  narrow_deep h k t = unfold outcome_of narrowed_in refuse ◌>>◌ number in rw (h, sym k ∙ t)
 
   pub narrow_done : {q : NarrowSession} {x : Bool} → is_session (program b) w ≡ true → x ≡ ltb narrow_depth (depth (program b) w.node) → x ≡ false → q ≡ narrow_of w
-      → Given (narrowed_in b w) no_narrow tested.Good q
-  narrow_done h k t e = rw e (gives (unfold narrowed_in refuse ◌>>◌ in rw (h, sym k ∙ t)))
+      → outcome_of (Ok q) ≡ narrowed_in b w
+  narrow_done h k t e = unfold outcome_of narrowed_in refuse ◌>>◌ in rw (e, h, sym k ∙ t)
 
 module _ (b : Book) (P : Promise b) (w : Session) (h : is_session (program b) w ≡ true) where
   pub is_node : IsNode b w.node
@@ -93,16 +84,12 @@ pub narrow_turn : (b : Book) (s : Session) (scratch : List ℕ) → turn b scrat
 unfolding turn narrow_call narrowed narrowed_in
 narrow_turn b s scratch = refl
 
-module _ {S : Type 0} (b : Book) (scratch : List ℕ) (none : S) (o : Outcome S) {l : Turned S} (is : turn b scratch none o ≡ l) {d : Tested} {scratch' : List ℕ}
-    (h : (tested_value d ≡ (book_test_call b scratch).answer) × (scratch' ≡ (book_test_call b scratch).scratch)) {a : Tested} {s : S} where
-  pub turn_stops : {why : Refusal} → d ≡ tested.Refused why → (a ≡ tested.Refused why) × (s ≡ none) → TurnReturned l a s scratch'
-  unfolding turn ◌>>◌ book_test_call tested_value answer_of or_else
-  turn_stops e q =
-      let t = stops b scratch h.0 e in
-      rw (sym is) (record { answer = rw t (ap tested_value q.0); session = rw t q.1; scratch'' = h.1 })
+module _ {S : Type 0} (b : Book) (scratch : List ℕ) (none : S) (o : Outcome S) {l : Turned S} (is : turn b scratch none o ≡ l) {d : Result (Unit {0}) Refusal} {scratch' : List ℕ}
+    (h : (outcome_of d ≡ (book_test_call b scratch).answer) × (scratch' ≡ (book_test_call b scratch).scratch)) where
+  pub turn_stops : {why : Refusal} → d ≡ Err why → TurnReturned l none (Err why) scratch'
+  unfolding turn ◌>>◌ book_test_call outcome_of answer_of or_else
+  turn_stops e = let t = refuses b scratch h.0 e in rw (sym is) (record { answer = rw t; session = rw t; scratch'' = h.1 })
 
-  pub turn_passes : d ≡ tested.Good → Given o none a s → TurnReturned l a s scratch'
+  pub turn_passes : {u : Unit {0}} {r : Result S Refusal} → d ≡ Ok u → outcome_of r ≡ o → TurnReturned l none r scratch'
   unfolding turn ◌>>◌ book_test_call
-  turn_passes e g =
-      let t = passes b scratch h.0 e in
-      rw (sym is) (record { answer = rw t g.answer; session = rw t g.session; scratch'' = h.1 })
+  turn_passes e g = let t = lets b scratch h.0 e in rw (sym is) (record { answer = rw (t, g); session = rw (t, g); scratch'' = h.1 })

@@ -7,4 +7,4 @@ mod turning;
 
 pub use image::{NARROW_IMAGE, load_narrow, save_narrow};
 pub use image_turns::{narrow_image, widen_image};
-pub use turning::{Narrowed, Widened, narrow, widen};
+pub use turning::{narrow, widen};

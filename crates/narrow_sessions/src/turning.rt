@@ -6,79 +6,38 @@ ghost use Rattle.book_test.specs.Promise.{Promise};
 ghost use Rattle.contexts.specs.Path.{IsNode};
 ghost use Rattle.solvers.specs.Image.{no_session};
 ghost use Rattle.solvers.specs.Narrow.{narrow_depth, wide_of, narrow_of, no_narrow, Bytes, widen_call, narrow_call};
-ghost use Rattle.narrow_sessions.specs.Turned.{widened_in, narrowed_in, Given, TurnReturned};
+ghost use Rattle.solvers.specs.Returned.{outcome_of};
+ghost use Rattle.narrow_sessions.specs.Turned.{widened_in, narrowed_in, TurnReturned};
 
-use super::image::no_narrow;
 use super::level_turns::{narrow_levels, wide_levels};
 use book::Refusal;
-use book_test::{Tested, book_test};
 use engine::depth_of;
-use images::no_session;
 use session_test::is_session;
-use solvers::{NarrowSession, Session};
+use solvers::{NarrowSession, Session, tested};
 
 // A narrow session's node is at most this deep.
 const NARROW_DEPTH: usize = 64;
 
-// What a turn returns. A refused one gives a session that every call refuses.
-#[derive(Drop)]
-pub struct Widened {
-    pub answer: Tested,
-    pub session: Session,
-}
-
-#[derive(Drop)]
-pub struct Narrowed {
-    pub answer: Tested,
-    pub session: NarrowSession,
-}
-
-fn not_widened(why: Refusal) -> Widened
-    ensures { (result.answer ≡ Tested.Refused why) × (result.session ≡ no_session) }
+fn wide_of(narrow: &NarrowSession) -> Session
+    ensures { result ≡ wide_of narrow.now }
 {
-    let none = no_session();
-    Widened {
-        answer: Tested::Refused(why),
-        session: none,
-    }
-}
-
-fn not_narrowed(why: Refusal) -> Narrowed
-    ensures { (result.answer ≡ Tested.Refused why) × (result.session ≡ no_narrow) }
-{
-    let none = no_narrow();
-    Narrowed {
-        answer: Tested::Refused(why),
-        session: none,
-    }
-}
-
-fn wide_of(narrow: NarrowSession) -> Session
-    ensures { result ≡ wide_of narrow }
-{
-    let owed = narrow.owed;
-    let levels = narrow.levels;
-    let turned = wide_levels(&levels);
     Session {
         node: narrow.node,
         goal: narrow.goal,
-        owed: owed,
-        levels: turned,
+        owed: narrow.owed,
+        levels: wide_levels(&narrow.levels),
     }
 }
 
-fn narrow_of(wide: Session) -> NarrowSession
-    requires { Bytes wide.levels }
-    ensures { result ≡ narrow_of wide }
+fn narrow_of(wide: &Session) -> NarrowSession
+    requires { Bytes wide.now.levels }
+    ensures { result ≡ narrow_of wide.now }
 {
-    let owed = wide.owed;
-    let levels = wide.levels;
-    let turned = narrow_levels(&levels);
     NarrowSession {
         node: wide.node,
         goal: wide.goal,
-        owed: owed,
-        levels: turned,
+        owed: wide.owed,
+        levels: narrow_levels(&wide.levels),
     }
 }
 
@@ -92,56 +51,45 @@ fn is_deep(book: &[u8], node: usize) -> bool
 }
 
 // In a book that passed its test.
-fn widen_in(s: NarrowSession, book: &[u8]) -> Widened
+pub fn widen_in(s: &NarrowSession, book: &[u8]) -> Result<Session, Refusal>
     requires { Promise book.now }
-    ensures { Given (widened_in book.now s) no_session result.answer result.session }
+    ensures { outcome_of result ≡ widened_in book.now s.now }
 {
     let wide = wide_of(s);
     if !is_session(book, wide) {
-        return not_widened(Refusal::NoSession);
+        return Err(Refusal::NoSession);
     }
     if is_deep(book, wide.node as usize) {
-        return not_widened(Refusal::NoSession);
+        return Err(Refusal::NoSession);
     }
-    Widened {
-        answer: Tested::Good,
-        session: wide,
-    }
+    Ok(wide)
 }
 
 // No record is declared deeper than the node, so the levels of what is not too deep fit a byte.
-fn narrow_in(s: Session, book: &[u8]) -> Narrowed
+pub fn narrow_in(s: &Session, book: &[u8]) -> Result<NarrowSession, Refusal>
     requires { Promise book.now }
-    ensures { Given (narrowed_in book.now s) no_narrow result.answer result.session }
+    ensures { outcome_of result ≡ narrowed_in book.now s.now }
 {
-    if !is_session(book, s) {
-        return not_narrowed(Refusal::NoSession);
+    if !is_session(book, *s) {
+        return Err(Refusal::NoSession);
     }
     if is_deep(book, s.node as usize) {
-        return not_narrowed(Refusal::TooDeepForNarrow);
+        return Err(Refusal::TooDeepForNarrow);
     }
-    let narrow = narrow_of(s);
-    Narrowed {
-        answer: Tested::Good,
-        session: narrow,
-    }
+    Ok(narrow_of(s))
 }
 
 // Any session, book and scratch are taken.
-pub fn widen(s: NarrowSession, book: &[u8], scratch: &mut [u8]) -> Widened
-    ensures { TurnReturned (widen_call book.now s scratch.old) result.answer result.session scratch.new }
+pub fn widen(s: &NarrowSession, book: &[u8], scratch: &mut [u8]) -> Result<Session, Refusal>
+    ensures { TurnReturned (widen_call book.now s.now scratch.old) no_session result scratch.new }
 {
-    match book_test(book, scratch) {
-        Tested::Refused(why) => not_widened(why),
-        Tested::Good => widen_in(s, book),
-    }
+    tested(book, scratch)?;
+    widen_in(s, book)
 }
 
-pub fn narrow(s: Session, book: &[u8], scratch: &mut [u8]) -> Narrowed
-    ensures { TurnReturned (narrow_call book.now s scratch.old) result.answer result.session scratch.new }
+pub fn narrow(s: &Session, book: &[u8], scratch: &mut [u8]) -> Result<NarrowSession, Refusal>
+    ensures { TurnReturned (narrow_call book.now s.now scratch.old) no_narrow result scratch.new }
 {
-    match book_test(book, scratch) {
-        Tested::Refused(why) => not_narrowed(why),
-        Tested::Good => narrow_in(s, book),
-    }
+    tested(book, scratch)?;
+    narrow_in(s, book)
 }

@@ -1,23 +1,19 @@
 // What closes a question, and the reason that a goal is not proved.
 ghost use Rattle.std.specs.Prelude.{◌≡◌, [], ◌∷◌};
-ghost use Rattle.basics.specs.Write.{Wrote, WroteAt};
+ghost use Rattle.basics.specs.Write.{WroteAt};
 ghost use Rattle.smt_engines.specs.Command.{Pop, script};
 ghost use Rattle.solvers.specs.Session.{Proved, Unproved, closed};
 ghost use Rattle.solvers.specs.Calls.{fitting};
-ghost use Rattle.solvers.specs.Returned.{lent, Given};
-ghost use Rattle.basics.specs.Text.{given};
+ghost use Rattle.solvers.specs.Returned.{lent, lent_text, Given};
 ghost use Rattle.replies.specs.Replies.{reason_text};
 
-use basics::{clip, put, put_all, sum};
+use basics::put_at;
 use book::Refusal;
 use smt_engines::pop;
-use solvers::{Answer, Called, Owed, Session};
+use solvers::{Answer, NO_GOAL, Owed, Session};
 
 // What stands between reply and model in a reason.
 const NEWLINE: u8 = b'\n';
-
-// The goal where no question is open.
-const NO_GOAL: u32 = 0;
 
 // One pop of Prove in Solvers.dfy, one of Prove in RSolver.dfy.
 fn two_pops(out: &mut [u8]) -> usize
@@ -27,77 +23,59 @@ fn two_pops(out: &mut [u8]) -> usize
     pop(one, out)
 }
 
-// The session when its question is closed.
-fn free(session: Session) -> Session
-    ensures { result ≡ (closed session Proved).session }
+// The question is closed.
+fn free(session: &mut Session)
+    ensures { session.new ≡ (closed session.old Proved).session }
 {
-    let node = session.node;
-    let levels = session.levels;
-    Session {
-        node: node,
-        goal: NO_GOAL,
-        owed: Owed::Nothing,
-        levels: levels,
-    }
+    session.goal = NO_GOAL;
+    session.owed = Owed::Nothing;
 }
 
 // The reply, and behind a line end the model, if one came.
-fn put_reason(reply: &[u8], came: bool, model: &[u8], out: &mut [u8]) -> usize
-    ensures { Wrote (reason_text reply.now (given came model.now)) out.old out.new result }
+fn put_reason(reply: &[u8], model: Option<&[u8]>, out: &mut [u8]) -> usize
+    ensures { WroteAt (reason_text reply.now (lent_text model.entry)) 0 out.old out.new result }
 {
-    let first = put_all(reply, out);
-    if !came {
+    let first = put_at(reply, 0, out);
+    let Some(model) = model else {
         return first;
-    }
-    let k = clip(first, out.len());
-    let line = put(NEWLINE, &mut out[k..]);
-    let ended = sum(first, line);
-    let k2 = clip(ended, out.len());
-    let rest = put_all(model, &mut out[k2..]);
-    sum(ended, rest)
+    };
+    let line = put_at(&[NEWLINE], first, out);
+    put_at(model, line, out)
 }
 
 // The goal is proved.
-pub fn close_proved(session: Session, text: &mut [u8]) -> Called
-    ensures { Given (fitting (lent [] text.old []) (closed session Proved)) session result text.old text.new [] [] }
+pub fn close_proved(session: &mut Session, text: &mut [u8]) -> Result<Answer, Refusal>
+    ensures { Given (fitting (lent [] text.old []) (closed session.old Proved)) session.old (record { answer = result; session = session.new }) text.old text.new [] [] }
 {
-    let mut nowhere = [0; 0];
-    let length = two_pops(&mut nowhere);
+    let length = two_pops(&mut []);
     if text.len() < length {
-        return Called::refused(Refusal::BufferTooShort, session);
+        return Err(Refusal::BufferTooShort);
     }
     two_pops(text);
-    Called {
-        answer: Answer::Proved(length),
-        session: free(session),
-    }
+    free(session);
+    Ok(Answer::Proved(length))
 }
 
 // The goal is not proved. Text and reason are measured before a buffer is touched.
 pub fn close_unproved(
-    session: Session,
+    session: &mut Session,
     reply: &[u8],
-    came: bool,
-    model: &[u8],
+    model: Option<&[u8]>,
     text: &mut [u8],
     reason: &mut [u8],
-) -> Called
-    ensures { Given (fitting (lent [] text.old reason.old) (closed session (Unproved (reason_text reply.now (given came model.now))))) session result text.old text.new reason.old reason.new }
+) -> Result<Answer, Refusal>
+    ensures { Given (fitting (lent [] text.old reason.old) (closed session.old (Unproved (reason_text reply.now (lent_text model.entry))))) session.old (record { answer = result; session = session.new }) text.old text.new reason.old reason.new }
 {
-    let mut nowhere = [0; 0];
-    let length = two_pops(&mut nowhere);
+    let length = two_pops(&mut []);
     if text.len() < length {
-        return Called::refused(Refusal::BufferTooShort, session);
+        return Err(Refusal::BufferTooShort);
     }
-    let mut nowhere2 = [0; 0];
-    let why = put_reason(reply, came, model, &mut nowhere2);
+    let why = put_reason(reply, model, &mut []);
     if reason.len() < why {
-        return Called::refused(Refusal::BufferTooShort, session);
+        return Err(Refusal::BufferTooShort);
     }
     two_pops(text);
-    put_reason(reply, came, model, reason);
-    Called {
-        answer: Answer::Unproved(length, why),
-        session: free(session),
-    }
+    put_reason(reply, model, reason);
+    free(session);
+    Ok(Answer::Unproved(length, why))
 }

@@ -22,16 +22,18 @@ use Rattle.book_test.specs.declared.Tested.{Tested}
 use Rattle.book_test.specs.declared.Tested.TheVariants as tested
 use Rattle.book_test.proofs.Outcomes.{ready_passed}
 use Rattle.book_test.proofs.Promise.{promise}
+use Rattle.std.specs.Prelude.{Result, Ok, Err}
+use Rattle.solvers.specs.declared.Answer.{Answer}
 use Rattle.solvers.specs.declared.Answer.TheVariants as answer
 use Rattle.solvers.specs.declared.Called.{Called}
 use Rattle.solvers.specs.declared.Session.{Session}
 use Rattle.solvers.specs.Session.{Written, Proved, Unproved, text_of}
 use Rattle.solvers.specs.Calls.{Call, host_of, call, reason_of, fitting}
 use Rattle.solvers.specs.Left.{answer_value, values_by, values, reason, session_after, left, called}
-use Rattle.solvers.specs.Returned.{lent, Returned, Given}
+use Rattle.solvers.specs.Returned.{lent, Returned, Given, outcome_of}
 
 pub given_refused : (o : Outcome Written) (why : Refusal) (s : Session) (t e : List ℕ) → o ≡ refused (number why)
-    → Given o s (record { answer = answer.Refused why; session = s }) t t e e
+    → Given o s (record { answer = Err why; session = s }) t t e e
 unfolding answer_value map_outcome session_after buffer_after
 given_refused o why s t e h = record { answer = rw h; session = rw h; text = rw h; reason = rw h }
 
@@ -53,19 +55,30 @@ module _ (b : Book) (scratch : List ℕ) {d : Tested} (h : tested_value d ≡ (b
   pub book_good : d ≡ tested.Good → Promise b
   book_good e = promise b (ready_passed (length scratch) b (passes e)).1
 
--- a call behind the book test, with what it gives in a book that passed
-module _ (b : Book) (s : Session) (c : Call) (o : Outcome Written) (is : call b s c ≡ (ready (length (host_of c).scratch) b >> o)) {d : Tested} {scratch : List ℕ}
-    (h : (tested_value d ≡ (book_test_call b (host_of c).scratch).answer) × (scratch ≡ (book_test_call b (host_of c).scratch).scratch)) where
-  pub call_stops : {why : Refusal} {r : Called} → d ≡ tested.Refused why → r ≡ record { answer = answer.Refused why; session = s }
-      → Returned (called b s c) r (host_of c).text (host_of c).reason scratch
-  unfolding ◌>>◌ book_test_call
-  call_stops {why} e q =
-      rw q (returned b s c (given_refused (call b s c) why s (host_of c).text (host_of c).reason (rw (is, stops b (host_of c).scratch h.0 e))) h.1)
+-- the same of a test whose refusal is handed on
+module _ (b : Book) (scratch : List ℕ) {d : Result (Unit {0}) Refusal} (h : outcome_of d ≡ (book_test_call b scratch).answer) where
+  pub refuses : {why : Refusal} → d ≡ Err why → ready (length scratch) b ≡ refused (number why)
+  unfolding book_test_call outcome_of
+  refuses e = sym h ∙ ap outcome_of e
 
-  pub call_passes : {r : Called} {t' e' : List ℕ} → d ≡ tested.Good → Given o s r (host_of c).text t' (host_of c).reason e' → Returned (called b s c) r t' e' scratch
+  pub lets : {u : Unit {0}} → d ≡ Ok u → ready (length scratch) b ≡ accepted tt
+  unfolding book_test_call outcome_of
+  lets e = sym h ∙ ap outcome_of e
+
+  pub lets_good : {u : Unit {0}} → d ≡ Ok u → Promise b
+  lets_good e = promise b (ready_passed (length scratch) b (lets e)).1
+
+-- a call behind the book test, with what it gives in a book that passed
+module _ (b : Book) (s : Session) (c : Call) (o : Outcome Written) (is : call b s c ≡ (ready (length (host_of c).scratch) b >> o)) {d : Result (Unit {0}) Refusal} {scratch : List ℕ}
+    (h : (outcome_of d ≡ (book_test_call b (host_of c).scratch).answer) × (scratch ≡ (book_test_call b (host_of c).scratch).scratch)) where
+  pub call_stops : {why : Refusal} → d ≡ Err why → Returned (called b s c) (record { answer = Err why; session = s }) (host_of c).text (host_of c).reason scratch
   unfolding ◌>>◌ book_test_call
-  call_passes {r} {t'} {e'} e g =
-      let same : o ≡ call b s c = sym (is ∙ rw (passes b (host_of c).scratch h.0 e)) in
+  call_stops {why} e = returned b s c (given_refused (call b s c) why s (host_of c).text (host_of c).reason (rw (is, refuses b (host_of c).scratch h.0 e))) h.1
+
+  pub call_passes : {u : Unit {0}} {r : Called} {t' e' : List ℕ} → d ≡ Ok u → Given o s r (host_of c).text t' (host_of c).reason e' → Returned (called b s c) r t' e' scratch
+  unfolding ◌>>◌ book_test_call
+  call_passes {r = r} {t' = t'} {e' = e'} e g =
+      let same : o ≡ call b s c = sym (is ∙ rw (lets b (host_of c).scratch h.0 e)) in
       let g' : Given (call b s c) s r (host_of c).text t' (host_of c).reason e' = rw same at g in
       returned b s c g' h.1
 
@@ -76,38 +89,37 @@ given_accepted o w s h a q x y = record { answer = rw h a; session = rw h q; tex
 
 -- What an accepted call sends is measured, and then written.
 module _ (s : Session) (w : Written) (t e : List ℕ) {n : ℕ} (m : n ≡ min (0 + length (text_of w)) MOST) where
-  pub text_long : {r : Called} → length t < n → r ≡ record { answer = answer.Refused BufferTooShort; session = s } → Given (fitting (lent [] t e) w) s r t t e e
+  pub text_long : length t < n → Given (fitting (lent [] t e) w) s (record { answer = Err BufferTooShort; session = s }) t t e e
   unfolding fitting refuse ◌>>◌ number
-  text_long h q = rw q (given_refused (fitting (lent [] t e) w) BufferTooShort s t e (rw (lt-ltb (length t) (length (text_of w)) (omega arith))))
+  text_long h = given_refused (fitting (lent [] t e) w) BufferTooShort s t e (rw (lt-ltb (length t) (length (text_of w)) (omega arith)))
 
   module _ (room : n ≤ length t) (short : length t < MOST) where
     whole : n ≡ length (text_of w)
     whole = omega arith
 
-    pub reason_long : {k : ℕ} {r : Called} → k ≡ min (length (reason_of w.result)) MOST → length e < k
-        → r ≡ record { answer = answer.Refused BufferTooShort; session = s } → Given (fitting (lent [] t e) w) s r t t e e
+    pub reason_long : {k : ℕ} → k ≡ min (0 + length (reason_of w.result)) MOST → length e < k
+        → Given (fitting (lent [] t e) w) s (record { answer = Err BufferTooShort; session = s }) t t e e
     unfolding fitting refuse ◌>>◌ number
-    reason_long k h q =
-        rw q
-        (given_refused (fitting (lent [] t e) w) BufferTooShort s t e
-        (rw (le-ltb (length t) (length (text_of w)) (omega (arith, whole)), lt-ltb (length e) (length (reason_of w.result)) (omega arith))))
+    reason_long k h =
+        given_refused (fitting (lent [] t e) w) BufferTooShort s t e
+        (rw (le-ltb (length t) (length (text_of w)) (omega (arith, whole)), lt-ltb (length e) (length (reason_of w.result)) (omega arith)))
 
     fits : length (reason_of w.result) ≤ length e → fitting (lent [] t e) w ≡ accepted w
     unfolding fitting refuse ◌>>◌
     fits h = rw (le-ltb (length t) (length (text_of w)) (omega (arith, whole)), le-ltb (length e) (length (reason_of w.result)) h)
 
     module _ {t' : List ℕ} {q : Session} (x : t' ≡ overlay (text_of w) t) (z : q ≡ w.session) where
-      pub written : w.result ≡ none → Given (fitting (lent [] t e) w) s (record { answer = answer.Written n; session = q }) t t' e e
+      pub written : w.result ≡ none → Given (fitting (lent [] t e) w) s (record { answer = Ok (answer.Written n); session = q }) t t' e e
       unfolding text_of answer_value values values_by reason_of overlay
       written g =
           given_accepted (fitting (lent [] t e) w) w s (fits (rw g (omega arith))) (rw (g, whole)) z x (rw g)
 
-      pub proved : w.result ≡ some Proved → Given (fitting (lent [] t e) w) s (record { answer = answer.Proved n; session = q }) t t' e e
+      pub proved : w.result ≡ some Proved → Given (fitting (lent [] t e) w) s (record { answer = Ok (answer.Proved n); session = q }) t t' e e
       unfolding text_of answer_value values values_by reason_of overlay
       proved g = given_accepted (fitting (lent [] t e) w) w s (fits (rw g (omega arith))) (rw (g, whole)) z x (rw g)
 
       pub unproved : {why : Text} {k : ℕ} {e' : List ℕ} → w.result ≡ some (Unproved why) → k ≡ length why → k ≤ length e → e' ≡ overlay why e
-          → Given (fitting (lent [] t e) w) s (record { answer = answer.Unproved n k; session = q }) t t' e e'
+          → Given (fitting (lent [] t e) w) s (record { answer = Ok (answer.Unproved n k); session = q }) t t' e e'
       unfolding text_of answer_value values values_by reason_of
       unproved {why} g k l y = given_accepted (fitting (lent [] t e) w) w s (fits (rw g (omega arith))) (rw (g, whole, k)) z x (rw g y)
 

@@ -1,10 +1,11 @@
 -- THE CALLS move, ask, reply and model, whole: the answer, the session, and what every buffer holds afterwards.
-use Rattle.std.specs.Prelude.{ℕ, List, length}
+use Rattle.std.specs.Prelude.{ℕ, List, length, Result, Ok, Err}
 use Rattle.std.proofs.Math.Option.{Option, none, some}
 use Rattle.basics.specs.Text.{Text}
 use Rattle.basics.specs.Outcome.{Outcome, refused, accepted, map_outcome}
 use Rattle.basics.specs.Buffer.{buffer_after, scratch_after}
 use Rattle.book.specs.Refusal.{number}
+use Rattle.book.specs.declared.Refusal.{Refusal}
 use Rattle.book.specs.Book.{Book}
 use Rattle.solvers.specs.declared.Answer as code
 use Rattle.solvers.specs.declared.Answer.TheVariants as answer
@@ -18,11 +19,11 @@ pub data Values : Type 0 where
   unproved : ℕ → ℕ → Values
 
 -- the number and values of each answer
-unfoldable pub answer_value : code.Answer → Outcome Values
-answer_value (answer.Written n) = accepted (written n)
-answer_value (answer.Proved n) = accepted (proved n)
-answer_value (answer.Unproved n m) = accepted (unproved n m)
-answer_value (answer.Refused r) = refused (number r)
+unfoldable pub answer_value : Result code.Answer Refusal → Outcome Values
+answer_value (Ok (answer.Written n)) = accepted (written n)
+answer_value (Ok (answer.Proved n)) = accepted (proved n)
+answer_value (Ok (answer.Unproved n m)) = accepted (unproved n m)
+answer_value (Err r) = refused (number r)
 
 unfoldable pub values_by : Option ProofResult → (text : ℕ) → Values
 values_by none text = written text

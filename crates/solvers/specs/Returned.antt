@@ -1,7 +1,12 @@
 -- What the code of a call returns and leaves, against the definitions.
-use Rattle.std.specs.Prelude.{ℕ, ◌≡◌, List}
-use Rattle.basics.specs.Outcome.{Outcome, map_outcome}
+use Rattle.std.specs.Prelude.{ℕ, ◌≡◌, List, Result, Ok, Err, Option, Some, None}
+use Rattle.std.specs.Borrow.{Bor}
+use Rattle.std.proofs.Math.Option as maybe
+use Rattle.basics.specs.Text.{Text}
+use Rattle.basics.specs.Outcome.{Outcome, refused, accepted, map_outcome}
 use Rattle.basics.specs.Buffer.{buffer_after}
+use Rattle.book.specs.Refusal.{number}
+use Rattle.book.specs.declared.Refusal.{Refusal}
 use Rattle.solvers.specs.declared.Called.{Called}
 use Rattle.solvers.specs.declared.Session.{Session}
 use Rattle.solvers.specs.Session.{Written, text_of}
@@ -26,3 +31,18 @@ pub record Given (o : Outcome Written) (s : Session) (r : Called) (t t' e e' : L
   pub session : r.session ≡ session_after o s
   pub text : t' ≡ buffer_after o text_of t
   pub reason : e' ≡ buffer_after o reason e
+
+-- what a result of the code says
+unfoldable pub outcome_of : {A : Type 0} → Result A Refusal → Outcome A
+outcome_of (Ok a) = accepted a
+outcome_of (Err why) = refused (number why)
+
+-- the text behind a reference, where there is one
+unfoldable pub lent_text : Option (Bor Text) → maybe.Option Text
+lent_text None = maybe.none
+lent_text (Some t) = maybe.some t.now
+
+-- a check's reply, or the error of one that failed
+unfoldable pub heard : Result (Bor Text) (Bor Text) → Text
+heard (Ok reply) = reply.now
+heard (Err error) = error.now

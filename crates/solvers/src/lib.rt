@@ -1,9 +1,12 @@
 #![tactic(auto)]
 // Solvers.dfy: the session. The definitions are in specs/; the calls are in the crates session_test, moves and replies, the stack rule in stack_rule.
 ghost use Rattle.std.specs.Prelude.{◌≡◌};
+ghost use Rattle.book_test.specs.BookTest.{book_test_call};
+ghost use Rattle.solvers.specs.Returned.{outcome_of};
 ghost use Rattle.solvers.specs.Session.{fresh_session};
 
 use book::Refusal;
+use book_test::{Tested, book_test};
 use session_levels::{LEVEL_COUNT, Level};
 
 // What an open question waits for.
@@ -32,45 +35,44 @@ pub struct NarrowSession {
     pub levels: [u8; LEVEL_COUNT],
 }
 
-// The answer of move, ask, reply and model: the text's length, and with a reason the reason's too.
+// The answer of an accepted move, ask, reply or model: the text's length, and with a reason the reason's too.
 #[derive(Clone, Copy)]
 pub enum Answer {
     Written(usize),
     Proved(usize),
     Unproved(usize, usize),
-    Refused(Refusal),
 }
 
-// What a call returns.
+// What a call by value returns. A refused one returns the session as received.
 #[derive(Clone, Copy)]
 pub struct Called {
-    pub answer: Answer,
+    pub answer: Result<Answer, Refusal>,
     pub session: Session,
 }
+
+// The goal where no question is open.
+pub const NO_GOAL: u32 = 0;
 
 impl Session {
     // At the root, with nothing declared.
     pub fn fresh() -> Session
         ensures { result ≡ fresh_session }
     {
-        let levels = session_levels::blank();
         Session {
             node: 0,
-            goal: 0,
+            goal: NO_GOAL,
             owed: Owed::Nothing,
-            levels: levels,
+            levels: session_levels::blank(),
         }
     }
 }
 
-impl Called {
-    // A refused call returns the session as received.
-    pub fn refused(why: Refusal, session: Session) -> Called
-        ensures { result ≡ record { answer = Answer.Refused why; session = session } }
-    {
-        Called {
-            answer: Answer::Refused(why),
-            session: session,
-        }
+// The book test, whose refusal a call hands on by `?`.
+pub fn tested(book: &[u8], scratch: &mut [u8]) -> Result<(), Refusal>
+    ensures { (outcome_of result ≡ (book_test_call book.now scratch.old).answer) × (scratch.new ≡ (book_test_call book.now scratch.old).scratch) }
+{
+    match book_test(book, scratch) {
+        Tested::Good => Ok(()),
+        Tested::Refused(why) => Err(why),
     }
 }

@@ -1,10 +1,17 @@
+use Rattle.std.specs.Prelude.{is_ok}
+use Rattle.std.proofs.lemmas.Result.{err_from_is_err_and}
 use Rattle.solvers.specs.Calls.{reply_with}
-use Rattle.solvers.specs.Returned.{lent}
-use Rattle.image_calls.proofs.OnImages.{long, on_image}
+use Rattle.solvers.specs.Returned.{lent, heard}
+use Rattle.image_calls.proofs.OnImages.{stopped, room, stored}
 use Rattle.image_calls.proofs.reply_image.Goals as goal
 
-pub store-requires : goal.store-requires
-store-requires c = record { long = long c.args.book.now c.args.image.now (reply_with (lent c.args.scratch.now c.args.text.now c.args.reason.now) c.args.ok c.args.reply.now) _ (rw (← c.load-session.ensures) c.give_reply-called.ensures.answer) }
+pub returns-in_err-answer : goal.returns-in_err-answer
+returns-in_err-answer c =
+    let p = err_from_is_err_and c.from_residual.result c.from_residual.ensures.1 in
+    rw (p.1, p.2) (stopped c.args.book.now c.args.image.now (reply_with (lent c.args.scratch.now c.args.text.now c.args.reason.now) (is_ok c.args.check) (heard c.args.check)) c.load-session.ensures c.reply_mut.ensures c.in_err-answer.was)
+
+pub save-requires : goal.save-requires
+save-requires c = room c.args.book.now c.args.image.now (reply_with (lent c.args.scratch.now c.args.text.now c.args.reason.now) (is_ok c.args.check) (heard c.args.check)) c.load-session.ensures c.reply_mut.ensures c.in_ok-answer.was
 
 pub returns : goal.returns
-returns c = on_image c.args.book.now c.args.image.now (reply_with (lent c.args.scratch.now c.args.text.now c.args.reason.now) c.args.ok c.args.reply.now) (rw (← c.load-session.ensures) c.give_reply-called.ensures) c.store.ensures
+returns c = stored c.args.book.now c.args.image.now (reply_with (lent c.args.scratch.now c.args.text.now c.args.reason.now) (is_ok c.args.check) (heard c.args.check)) c.load-session.ensures c.reply_mut.ensures c.in_ok-answer.was c.save.ensures

@@ -1,12 +1,19 @@
-use native.Mathlib.Omega.{arith}
+use mathlib.Core.Path.{sym, ◌∙◌}
+use borrow.Author.Tests.{eqb-true, eqb-false}
 use Rattle.images.proofs.Reading.{other_length, other_kind, owed_decides}
 use Rattle.images.proofs.is_kind.Goals as goal
-
-pub returns-then-image-size : goal.returns-then-image-size
-returns-then-image-size c = other_length _ _ _ c.if-image-size.true
+use Rattle.images.proofs.is_kind.Goals.{then-image-size, else-image-size}
 
 pub returns-then-word-kind : goal.returns-then-word-kind
-returns-then-word-kind c = other_kind _ _ _ c.if-image-size.false c.word.ensures (λ e. omega (arith, e, c.if-word-kind.true))
+returns-then-word-kind c =
+    elim c.if-image-size.branch [
+      | then-image-size w ↦ owed_decides _ _ _ w.if-image-size.true w.word.ensures (eqb-true _ _ (sym w.value-is ∙ c.if-word-kind.true)) c.word-then-word-kind.ensures
+      | else-image-size w ↦ absurd (w.if-image-size.false (eqb-true _ _ (sym w.value-is ∙ c.if-word-kind.true)))
+    ]
 
-pub returns : goal.returns
-returns c = owed_decides _ _ _ c.if-image-size.false c.word.ensures (omega (arith, c.if-word-kind.false)) c.word-2.ensures
+pub returns-else-word-kind : goal.returns-else-word-kind
+returns-else-word-kind c =
+    elim c.if-image-size.branch [
+      | then-image-size w ↦ c.if-word-kind.false ∙ other_kind _ _ _ w.if-image-size.true w.word.ensures (eqb-false _ _ (sym w.value-is ∙ c.if-word-kind.false))
+      | else-image-size w ↦ c.if-word-kind.false ∙ other_length _ _ _ w.if-image-size.false
+    ]

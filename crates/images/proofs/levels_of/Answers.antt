@@ -1,4 +1,3 @@
-use Prim.Native.Nat.{◌-◌}
 use native.Mathlib.Omega.{arith}
 use mathlib.Core.Path.{◌≡◌, sym, ◌∙◌}
 use lib.ListN.{length}
@@ -9,10 +8,10 @@ use borrow.Author.Rules.{rules}
 use Rattle.images.proofs.levels_of.Goals as goal
 
 pub loop-i-init : goal.loop-i-init
-loop-i-init c = (omega arith, copied_none _ _ (let long : length c.blank-levels.result ≡ level_count = search rules in long ∙ sym (levels_long c.args.image.now c.requires)))
+loop-i-init c = copied_none _ _ (let long : length c.blank-levels.result ≡ level_count = search rules in long ∙ sym (levels_long c.args.image.now c.requires))
 
 pub loop-i-preserved : goal.loop-i-preserved
-loop-i-preserved c = (omega arith, rw (level_read c.args.image.now c.loop-i.i c.requires (omega arith) c.level_at.ensures) (copied_more c.loop-i.invariant.1 (omega (arith, levels_long c.args.image.now c.requires))))
+loop-i-preserved c = rw (level_read c.args.image.now c.loop-i.i c.requires (omega arith) c.level_at.ensures) (copied_more c.loop-i.invariant (omega (arith, levels_long c.args.image.now c.requires)))
 
 pub returns : goal.returns
-returns c = copied_all c.loop-i.invariant.1 (omega (arith, levels_long c.args.image.now c.requires))
+returns c = copied_all c.loop-i.invariant (omega (arith, levels_long c.args.image.now c.requires, c.loop-i.invariant.long))

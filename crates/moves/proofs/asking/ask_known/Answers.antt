@@ -3,10 +3,10 @@ use Rattle.moves.proofs.AskCall.{lacking, too_long, done}
 use Rattle.moves.proofs.asking.ask_known.Goals as goal
 
 pub returns-then-measured : goal.returns-then-measured
-returns-then-measured c = lacking _ _ _ _ _ c.measure-measured.ensures c.if-measured.true c.refused.ensures
+returns-then-measured c = lacking _ _ _ _ _ c.measure-measured.ensures c.if-measured.true
 
-pub returns-then-text-length : goal.returns-then-text-length
-returns-then-text-length c = too_long _ _ _ _ _ c.measure-measured.ensures c.if-measured.false c.if-text-length.true c.refused-then-text-length.ensures
+pub returns-then-text-measured : goal.returns-then-text-measured
+returns-then-text-measured c = too_long _ _ _ _ _ c.measure-measured.ensures c.if-measured.false c.if-text-measured.true
 
 pub returns : goal.returns
-returns c = done _ _ _ _ _ c.measure-measured.ensures c.if-measured.false c.if-text-length.false (omega (arith, c.well_formed.1.1.1.1.0)) c.wait-there.ensures
+returns c = done _ _ _ _ _ c.measure-measured.ensures c.if-measured.false c.if-text-measured.false (omega (arith, c.well_formed.1.1.1.1.0)) c.wait.ensures

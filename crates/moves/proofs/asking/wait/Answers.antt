@@ -9,4 +9,4 @@ question-requires c = record { promise = c.requires.promise; from = node_in _ c.
 
 pub returns : goal.returns
 unfolding ask_commands overlay_at
-returns c = record { is = there _ c.args.session _ _ c.question.ensures.levels; text = c.question.ensures.text.shown }
+returns c = record { is = there _ c.args.session.now _ _ c.question.ensures.levels; text = c.question.ensures.text.shown }

@@ -8,4 +8,4 @@ set_context-requires c = record { promise = c.requires.promise; from = node_in _
 
 pub returns : goal.returns
 unfolding overlay_at
-returns c = record { is = there _ c.args.session _ c.set_context.ensures.state.levels; text = c.set_context.ensures.text.shown }
+returns c = record { is = there _ c.args.session.now _ c.set_context.ensures.state.levels; text = c.set_context.ensures.text.shown }

@@ -1,18 +1,18 @@
 use mathlib.Core.Path.{sym, ◌∙◌}
 use native.Mathlib.Omega.{arith}
 use borrow.Author.Tests.{not-true, not-false}
-use Rattle.moves.proofs.MoveCall.{not_here, not_session, reply-owed, model-owed, free}
+use Rattle.moves.proofs.MoveCall.{not_here, not_session, not_free, free}
 use Rattle.std.proofs.lemmas.Bool.{not_from_false, not_from_true}
 use Rattle.moves.proofs.moving.move_in.Goals as goal
 
 pub returns-then-count-node : goal.returns-then-count-node
-returns-then-count-node c = not_here _ _ _ _ (omega (arith, c.count.ensures.is, c.if-count-node.true)) c.refused.ensures
+returns-then-count-node c = not_here _ _ _ _ (omega (arith, c.count.ensures.is, c.if-count-node.true))
 
 pub is_session-requires : goal.is_session-requires
 is_session-requires c = c.requires
 
 pub returns-then-not-is_session : goal.returns-then-not-is_session
-returns-then-not-is_session c = not_session _ _ _ _ (omega (arith, c.count.ensures.is, c.if-count-node.false)) c.is_session.ensures (not-true _ (not_from_false _ c.if-not-is_session.true)) c.refused-then-not-is_session.ensures
+returns-then-not-is_session c = not_session _ _ _ _ (omega (arith, c.count.ensures.is, c.if-count-node.false)) c.is_session.ensures (not-true _ (not_from_false _ c.if-not-is_session.true))
 
 pub move_known-requires : goal.move_known-requires
 move_known-requires c = record { promise = c.requires; known = sym c.is_session.ensures ∙ not-false _ (not_from_true _ c.if-not-is_session.false); free = c.in-Nothing.is; here = (omega (arith, c.count.ensures.is, c.if-count-node.false)) }
@@ -21,7 +21,4 @@ pub returns-in-Nothing : goal.returns-in-Nothing
 returns-in-Nothing c = free _ _ _ _ (omega (arith, c.count.ensures.is, c.if-count-node.false)) c.is_session.ensures (not-false _ (not_from_true _ c.if-not-is_session.false)) c.in-Nothing.is c.move_known.ensures
 
 pub returns-in-Reply : goal.returns-in-Reply
-returns-in-Reply c = reply-owed _ _ _ _ (omega (arith, c.count.ensures.is, c.if-count-node.false)) c.is_session.ensures (not-false _ (not_from_true _ c.if-not-is_session.false)) c.in-Reply.is c.refused-in-Reply.ensures
-
-pub returns-in-Model : goal.returns-in-Model
-returns-in-Model c = model-owed _ _ _ _ (omega (arith, c.count.ensures.is, c.if-count-node.false)) c.is_session.ensures (not-false _ (not_from_true _ c.if-not-is_session.false)) c.in-Model.is c.refused-in-Model.ensures
+returns-in-Reply c = not_free _ _ _ _ (omega (arith, c.count.ensures.is, c.if-count-node.false)) c.is_session.ensures (not-false _ (not_from_true _ c.if-not-is_session.false)) c.in-Reply.is

@@ -1,4 +1,3 @@
-use Prim.Native.Nat.{◌-◌}
 use native.Mathlib.Omega.{arith}
 use mathlib.Core.Path.{◌≡◌}
 use lib.ListN.{length}
@@ -8,13 +7,13 @@ use borrow.Author.Rules.{rules}
 use Rattle.narrow_sessions.proofs.level_turns.narrow_levels.Goals as goal
 
 pub loop-i-init : goal.loop-i-init
-loop-i-init c = (omega arith, copied_none _ _ (let long : length c.no_levels-turned.result ≡ level_count = search rules in omega (arith, long, c.requires.0)))
-
-pub overflow_cast-turned : goal.overflow_cast-turned
-overflow_cast-turned c = omega (arith, c.requires.1 c.loop-i.i (omega (arith, c.requires.0)))
+loop-i-init c = copied_none _ _ (let long : length c.no_levels-turned.result ≡ level_count = search rules in search rules)
 
 pub loop-i-preserved : goal.loop-i-preserved
-loop-i-preserved c = (omega arith, copied_more c.loop-i.invariant.1 (omega (arith, c.requires.0)))
+loop-i-preserved c = copied_more c.loop-i.invariant (omega arith)
+
+pub overflow_cast-turned : goal.overflow_cast-turned
+overflow_cast-turned c = omega (arith, c.requires c.loop-i.i (omega arith))
 
 pub returns : goal.returns
-returns c = copied_all c.loop-i.invariant.1 (omega (arith, c.requires.0))
+returns c = copied_all c.loop-i.invariant (omega (arith, c.loop-i.invariant.long))

@@ -3,4 +3,4 @@ use Rattle.narrow_sessions.proofs.turning.wide_of.Goals as goal
 
 pub returns : goal.returns
 unfolding wide_of
-returns c = rw c.wide_levels-turned.ensures
+returns c = rw c.wide_levels.ensures

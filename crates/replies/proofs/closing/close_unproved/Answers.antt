@@ -8,12 +8,12 @@ use Rattle.replies.proofs.closing.close_unproved.Goals as goal
 
 pub returns-then-text-length : goal.returns-then-text-length
 unfolding text_of closed
-returns-then-text-length c = text_long _ (closed c.args.session (Unproved _)) _ _ c.two_pops-length.ensures.counted c.if-text-length.true c.refused.ensures
+returns-then-text-length c = text_long _ (closed c.args.session.now (Unproved _)) _ _ c.two_pops-length.ensures.counted c.if-text-length.true
 
 pub returns-then-reason-why : goal.returns-then-reason-why
 unfolding text_of closed reason_of
-returns-then-reason-why c = reason_long _ (closed c.args.session (Unproved _)) _ _ c.two_pops-length.ensures.counted c.if-text-length.false (omega (arith, c.well_formed)) c.put_reason-why.ensures.counted c.if-reason-why.true c.refused-then-reason-why.ensures
+returns-then-reason-why c = reason_long _ (closed c.args.session.now (Unproved _)) _ _ c.two_pops-length.ensures.counted c.if-text-length.false (omega (arith, c.well_formed)) c.put_reason-why.ensures.counted c.if-reason-why.true
 
 pub returns : goal.returns
 unfolding text_of closed overlay_at
-returns c = unproved _ (closed c.args.session (Unproved _)) _ _ c.two_pops-length.ensures.counted c.if-text-length.false (omega (arith, c.well_formed)) c.two_pops.ensures.shown c.free.ensures refl (omega (arith, c.put_reason-why.ensures.counted, c.if-reason-why.false, c.well_formed)) c.if-reason-why.false c.put_reason.ensures.shown
+returns c = unproved _ (closed c.args.session.now (Unproved _)) _ _ c.two_pops-length.ensures.counted c.if-text-length.false (omega (arith, c.well_formed)) c.two_pops.ensures.shown c.free.ensures refl (omega (arith, c.put_reason-why.ensures.counted, c.if-reason-why.false, c.well_formed)) c.if-reason-why.false c.put_reason.ensures.shown

@@ -8,16 +8,11 @@ pub is_session-requires : goal.is_session-requires
 is_session-requires c = c.requires
 
 pub returns-then-not-is_session : goal.returns-then-not-is_session
-returns-then-not-is_session c = model_outside _ _ _ _ _ _ (failed c.is_session.ensures (not_from_false _ c.if-not-is_session.true)) c.refused.ensures
+returns-then-not-is_session c = model_outside _ _ _ _ _ _ (failed c.is_session.ensures (not_from_false _ c.if-not-is_session.true))
 
 pub returns-in-Model : goal.returns-in-Model
 unfolding owes
 returns-in-Model c = model-owed _ _ _ _ _ _ (passed c.is_session.ensures (not_from_true _ c.if-not-is_session.false)) (rw c.in-Model.is) c.model_owed.ensures
 
 pub returns-in-Nothing : goal.returns-in-Nothing
-unfolding owes
-returns-in-Nothing c = model_not_owed _ _ _ _ _ _ (passed c.is_session.ensures (not_from_true _ c.if-not-is_session.false)) (rw c.in-Nothing.is) c.refused-in-Nothing.ensures
-
-pub returns-in-Reply : goal.returns-in-Reply
-unfolding owes
-returns-in-Reply c = model_not_owed _ _ _ _ _ _ (passed c.is_session.ensures (not_from_true _ c.if-not-is_session.false)) (rw c.in-Reply.is) c.refused-in-Reply.ensures
+returns-in-Nothing c = model_not_owed _ _ _ _ _ _ (passed c.is_session.ensures (not_from_true _ c.if-not-is_session.false)) c.in-Nothing.is

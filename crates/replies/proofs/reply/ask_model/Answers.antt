@@ -9,8 +9,8 @@ use Rattle.replies.proofs.reply.ask_model.Goals as goal
 
 pub returns-then-text-length : goal.returns-then-text-length
 unfolding text_of replied
-returns-then-text-length c = text_long _ (replied false c.args.session) _ [] c.get_model-length.ensures.counted c.if-text-length.true c.refused.ensures
+returns-then-text-length c = text_long _ (replied false c.args.session.now) _ [] c.get_model-length.ensures.counted c.if-text-length.true
 
 pub returns : goal.returns
 unfolding text_of replied overlay_at
-returns c = written _ (replied false c.args.session) _ [] c.get_model-length.ensures.counted c.if-text-length.false (omega (arith, c.well_formed)) c.get_model.ensures.shown refl refl
+returns c = written _ (replied false c.args.session.now) _ [] c.get_model-length.ensures.counted c.if-text-length.false (omega (arith, c.well_formed)) c.get_model.ensures.shown refl refl
