@@ -4,5 +4,5 @@ pub mod GrownProgram
 pub mod Order
 pub mod Written
 pub mod Within
-pub mod TwoParts
+pub mod Parts
 mod Worked

@@ -1,12 +1,13 @@
--- The counts and the bodies of a grown book, as the code writes them.
-use Rattle.std.specs.Prelude.{ℕ, ◌+◌, ◌/◌, Bool, List, [], ◌∷◌, ◌++◌, leb}
+-- What the code appends, and the counts of a grown book as it writes them.
+use Rattle.std.specs.Prelude.{ℕ, ◌+◌, List, [], ◌∷◌, ◌++◌}
 use Rattle.book.specs.Book.{Book, Section, letters, names, types, constants, functions, axioms, patterns, terms, contexts, lists, size}
-use Rattle.book_layout.specs.Layout.{body, count_of}
-use Rattle.book_growth.specs.Growth.{Addition, added}
+use Rattle.book_layout.specs.Layout.{count_of}
+use Rattle.book_growth.specs.Growth.{Addition, addition, added}
+use Rattle.book_growth.specs.declared.Additions.{Additions}
 
--- so many bytes more keep the section within its limit
-unfoldable pub count_within : Book → Section → (more : ℕ) → Bool
-count_within b s more = leb (size b s + more / s.size) s.most
+-- new letters and new list entries come in two parts
+abbrev pub addition_by : Additions → Addition
+addition_by m = addition (m.letters.now ++ m.text.now) m.names.now m.constants.now m.terms.now m.contexts.now (m.first.now ++ m.second.now)
 
 unfoldable pub grown_count : Book → Addition → Section → ℕ
 grown_count b a s = size b s + count_of (added a) s
@@ -25,10 +26,3 @@ grown_counts b a =
     ∷ grown_count b a contexts
     ∷ grown_count b a lists
     ∷ []
-
--- the bodies of a grown book, in two parts
-unfoldable pub front_of : Book → (new_letters new_names new_constants : List ℕ) → List ℕ
-front_of b l n c = body b letters ++ l ++ (body b names ++ n) ++ body b types ++ (body b constants ++ c) ++ body b functions
-
-unfoldable pub back_of : Book → (new_terms new_contexts new_lists : List ℕ) → List ℕ
-back_of b t x e = body b axioms ++ body b patterns ++ (body b terms ++ t) ++ (body b contexts ++ x) ++ (body b lists ++ e)

@@ -26,11 +26,9 @@ pub fn put_table(counts: &[usize; SECTIONS], out: &mut [u8]) -> usize
 {
     let mut start = CONTENTS;
     let mut at = 0;
-    let mut n = 0;
-    while n < SECTIONS {
+    for n in 0..SECTIONS {
         at = put_entry(start, counts[n], at, out);
         start += SIZES[n] * counts[n];
-        n += 1;
     }
     at
 }

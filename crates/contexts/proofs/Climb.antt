@@ -3,8 +3,7 @@ use Prim.Native.Nat.{ℕ, zero, suc, ◌+◌, ◌-◌, ◌≤◌, ◌<◌}
 use native.Mathlib.Omega.{arith}
 use mathlib.Core.Path.{◌≡◌, refl, sym, ap, ◌∙◌}
 use mathlib.Core.List.{List, [], ◌∷◌, ◌++◌, append_assoc, append-nil}
-use lib.ListN.{length, take, set, length-set}
-use lib.Seq.{take-suc-set}
+use lib.ListN.{length, length-append}
 use Rattle.book.specs.Book.{Book, contexts, size, field, depth_most}
 use Rattle.book.specs.Program.{node_at, path_up, path, depth}
 use Rattle.book.specs.Decode.{program}
@@ -30,36 +29,31 @@ depth_few b P zero l = omega arith
 depth_few b P (suc k) l = P.shallow k l
 
 -- the nodes found so far, and those still above
-pub record Climbing (b : Book) (node : ℕ) (nodes : List ℕ) (depth n : ℕ) : Type 0 where
-  pub found : take depth nodes ++ path (program b) n ≡ path (program b) node
-  pub room : depth + length (path (program b) n) ≤ depth_most
+pub record Climbing (b : Book) (node : ℕ) (nodes : List ℕ) (n : ℕ) : Type 0 where
+  pub found : nodes ++ path (program b) n ≡ path (program b) node
+  pub room : length nodes + length (path (program b) n) ≤ depth_most
   pub inside : n ≤ size b contexts
-  pub long : length nodes ≡ depth_most
 
-pub climbing_start : (b : Book) → Promise b → (node : ℕ) → node ≤ size b contexts → (nodes : List ℕ) → length nodes ≡ depth_most → Climbing b node nodes 0 node
-climbing_start b P node l nodes e = record { found = refl; room = omega (arith, depth_few b P node l); inside = l; long = e }
+pub climbing_start : (b : Book) → Promise b → (node : ℕ) → node ≤ size b contexts → Climbing b node [] node
+climbing_start b P node l = record { found = refl; room = omega (arith, depth_few b P node l); inside = l }
 
-pub climbing_room : {b : Book} {node : ℕ} {nodes : List ℕ} {depth n : ℕ} → Promise b → 0 < n → Climbing b node nodes depth n → depth < depth_most
+pub climbing_room : {b : Book} {node : ℕ} {nodes : List ℕ} {n : ℕ} → Promise b → 0 < n → Climbing b node nodes n → length nodes < depth_most
 climbing_room {b} {n = n} P h c =
     let s = path_step (program b) (parent_below b P) n h in
     omega (arith, c.room, ap length s)
 
-pub climbing_more : {b : Book} {node : ℕ} {nodes : List ℕ} {depth n : ℕ} (r : ℕ) → Promise b → 0 < n → Climbing b node nodes depth n → r ≡ (node_at (program b) n).parent
-    → Climbing b node (set nodes depth n) (suc depth) r
-climbing_more {b} {node} {nodes} {depth} {n} r P h c e =
+pub climbing_more : {b : Book} {node : ℕ} {nodes : List ℕ} {n : ℕ} (r : ℕ) → Promise b → 0 < n → Climbing b node nodes n → r ≡ (node_at (program b) n).parent
+    → Climbing b node (nodes ++ n ∷ []) r
+climbing_more {b} {node} {nodes} {n} r P h c e =
     let s = path_step (program b) (parent_below b P) n h in
-    let room : depth < length nodes = omega (arith, climbing_room P h c, c.long) in
     let up : path (program b) n ≡ n ∷ path (program b) r = s ∙ ap {B = List ℕ} (λ (x : ℕ). n ∷ path (program b) x) (sym e) in
     record {
-      found =
-          ap (λ (l : List ℕ). l ++ path (program b) r) (take-suc-set nodes depth n room) ∙ append_assoc (take depth nodes) (n ∷ []) (path (program b) r)
-          ∙ ap (λ (l : List ℕ). take depth nodes ++ l) (sym up) ∙ c.found;
-      room = omega (arith, c.room, ap length up);
+      found = append_assoc nodes (n ∷ []) (path (program b) r) ∙ ap (λ (l : List ℕ). nodes ++ l) (sym up) ∙ c.found;
+      room = omega (arith, c.room, ap length up, length-append nodes (n ∷ []));
       inside = omega (arith, c.inside, parent_smaller b P n r h e);
-      long = length-set nodes depth n ∙ c.long;
     }
 
 -- at the root nothing is above
-pub climbing_done : {b : Book} {node : ℕ} {nodes : List ℕ} {depth n : ℕ} → n ≡ 0 → Climbing b node nodes depth n → take depth nodes ≡ path (program b) node
+pub climbing_done : {b : Book} {node : ℕ} {nodes : List ℕ} {n : ℕ} → n ≡ 0 → Climbing b node nodes n → nodes ≡ path (program b) node
 unfolding path path_up
-climbing_done {b} {node} {nodes} {depth} e c = sym (append-nil (take depth nodes)) ∙ (rw e at c.found)
+climbing_done {b} {node} {nodes} e c = sym (append-nil nodes) ∙ (rw e at c.found)

@@ -1,10 +1,10 @@
 -- What the readers of the tree of contexts ask for, and what they give.
-use Rattle.std.specs.Prelude.{ℕ, ◌+◌, ◌-◌, ◌<◌, ◌≤◌, ◌≡◌, ltb, length, take, if◌then◌else◌}
+use Rattle.std.specs.Prelude.{ℕ, ◌+◌, ◌-◌, ◌<◌, ◌≤◌, ◌≡◌, ltb, if◌then◌else◌}
 use Rattle.book.specs.Book.{Book, contexts, size, depth_most}
 use Rattle.book.specs.Program.{Program, node_at, path, depth, shared}
 use Rattle.book.specs.Decode.{program}
 use Rattle.book_test.specs.Promise.{Promise}
-use Rattle.contexts.specs.declared.Path as code
+use Rattle.arrayvec.specs.ArrayVec.{ArrayVec, array_vec_len}
 use Rattle.contexts.specs.declared.WayUp.{WayUp}
 
 -- a node of an accepted book, 0 for the root
@@ -23,10 +23,9 @@ pub record IsParent (b : Book) (node r : ℕ) : Type 0 where
   pub smaller : r < node
 
 -- the code's path: the nodes from the node itself up to the root's child
-pub record IsPath (b : Book) (node : ℕ) (r : code.Path) : Type 0 where
-  pub is : take r.depth r.nodes ≡ path (program b) node
-  pub few : r.depth ≤ depth_most
-  pub within : r.depth ≤ length r.nodes
+pub record IsPath (b : Book) (node : ℕ) (r : ArrayVec ℕ) : Type 0 where
+  pub is : r.items ≡ path (program b) node
+  pub few : array_vec_len r ≤ depth_most
 
 -- a move from one node of an accepted book to another
 pub record IsMove (b : Book) (old new : ℕ) : Type 0 where

@@ -4,14 +4,11 @@ ghost use Rattle.std.specs.Prelude.{◌≡◌, ◌≤◌};
 ghost use Rattle.contexts.specs.Path.{IsNode, IsBelow, IsParent, IsPath, IsMove, pops_of, IsApart, one_up};
 ghost use Rattle.book.specs.Decode.{program};
 
+use arrayvec::ArrayVec;
 use book::format::*;
 
 // A node's path: the node itself, its parent and so on, the root left out. No number of a node is above CONTEXTS_MOST, so that two bytes hold it.
-#[derive(Drop)]
-pub struct Path {
-    pub nodes: [u16; DEPTH_MOST],
-    pub depth: usize,
-}
+pub type Path = ArrayVec<u16, DEPTH_MOST>;
 
 fn parent(book: &[u8], node: usize) -> usize
     requires { IsBelow book.now node }
@@ -20,26 +17,17 @@ fn parent(book: &[u8], node: usize) -> usize
     book::field(book, CONTEXTS, node - 1, CONTEXT_PARENT)
 }
 
-fn blank() -> [u16; DEPTH_MOST] {
-    [0; DEPTH_MOST]
-}
-
 pub fn path_of(book: &[u8], node: usize) -> Path
     requires { IsNode book.now node }
     ensures { IsPath book.now node result }
 {
-    let mut nodes = blank();
-    let mut depth = 0;
+    let mut path = Path::new();
     let mut n = node;
     while 0 < n {
-        nodes[depth] = n as u16;
-        depth += 1;
+        path.push(n as u16);
         n = parent(book, n);
     }
-    Path {
-        nodes: nodes,
-        depth: depth,
-    }
+    path
 }
 
 // On the way up from both nodes of a move: where each stands, and the pops so far.
@@ -58,14 +46,13 @@ fn step_up(book: &[u8], at: WayUp) -> WayUp
     if at.new < at.old {
         return WayUp {
             old: parent(book, at.old),
-            new: at.new,
             pops: at.pops + 1,
+            ..at
         };
     }
     WayUp {
-        old: at.old,
         new: parent(book, at.new),
-        pops: at.pops,
+        ..at
     }
 }
 
@@ -74,11 +61,7 @@ pub fn pops(book: &[u8], old: usize, new: usize) -> usize
     requires { IsMove book.now old new }
     ensures { (result ≡ pops_of (program book.now) old new) × (result ≤ old) }
 {
-    let mut at = WayUp {
-        old: old,
-        new: new,
-        pops: 0,
-    };
+    let mut at = WayUp { old, new, pops: 0 };
     while at.old != at.new {
         at = step_up(book, at);
     }

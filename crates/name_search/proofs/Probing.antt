@@ -7,15 +7,15 @@ use mathlib.Core.Path.{◌≡◌, refl, sym, ap, ◌∙◌}
 use mathlib.Core.List.{List, ◌++◌}
 use lib.ListN.{length, take, drop, length-append}
 use lib.Seq.{take_at}
+use Rattle.arrayvec.specs.ArrayVec.{ArrayVec}
 use Rattle.basics.specs.Text.{ascii}
 use Rattle.basics.specs.Basics.{nat2_string}
 use Rattle.basics.specs.Write.{Wrote}
 use Rattle.basics.proofs.Digits.{nat_more, nat_last}
-use Rattle.basics.proofs.Laws.{overlay_fits, length_overlay}
+use Rattle.basics.proofs.Laws.{overlay_fits}
 use Rattle.book.specs.Book.{depth_most}
 use Rattle.name_search.specs.Probe.{probe_name, probe_most}
 use Rattle.name_search.specs.ProbeText.{IsProbeName}
-use Rattle.name_search.specs.declared.probe.ProbeName.{ProbeName}
 
 pub two_parts : (depth : ℕ) → ascii "probe%" ++ nat2_string depth ≡ probe_name depth
 unfolding probe_name
@@ -35,13 +35,10 @@ digits (suc k) n h = at (dec_lt n 10) (digits k (n / 10))
 probe_short : (depth : ℕ) → depth ≤ depth_most → length (probe_name depth) ≤ probe_most
 probe_short depth h = omega (arith, ap length (sym (two_parts depth)), length-append (ascii "probe%") (nat2_string depth), digits 2 depth (omega arith))
 
-pub probe_told : (depth : ℕ) {o : List ℕ} (r : ProbeName) → depth ≤ depth_most → length o ≡ probe_most → Wrote (probe_name depth) o r.text r.length → IsProbeName depth r
-probe_told depth {o} r h l w =
+pub probe_told : (depth : ℕ) {o text : List ℕ} {r : ℕ} {name : ArrayVec ℕ} → depth ≤ depth_most → length o ≡ probe_most → Wrote (probe_name depth) o text r
+    → name.items ≡ take r text → IsProbeName depth name
+probe_told depth {o} {r = r} h l w e =
     let fits : length (probe_name depth) ≤ length o = omega (arith, probe_short depth h) in
-    let counted : r.length ≡ length (probe_name depth) = omega (arith, w.counted, probe_short depth h) in
-    let stands : r.text ≡ probe_name depth ++ drop (length (probe_name depth)) o = w.shown ∙ overlay_fits (probe_name depth) o fits in
-    record {
-      is = ap (take r.length) stands ∙ take_at (probe_name depth) _ r.length (sym counted);
-      within = omega (arith, ap length w.shown, length_overlay (probe_name depth) o);
-      short = omega (arith, counted, probe_short depth h);
-    }
+    let counted : r ≡ length (probe_name depth) = omega (arith, w.counted, probe_short depth h) in
+    let is = e ∙ ap (take r) (w.shown ∙ overlay_fits (probe_name depth) o fits) ∙ take_at (probe_name depth) _ r (sym counted) in
+    record { is = is; short = omega (arith, ap length is, probe_short depth h) }

@@ -1,5 +1,6 @@
 -- The first name with a text: what its number says, and what a search that goes by the numbers has found.
-use Rattle.std.specs.Prelude.{if◌then◌else◌}
+use Rattle.std.specs.Prelude.{Some, None, MatchOption, if◌then◌else◌}
+use Rattle.std.specs.Prelude as code
 use Prim.Native.Nat.{ℕ, suc, ◌+◌, ◌<◌, ◌≤◌}
 use native.Mathlib.Omega.{arith}
 use mathlib.Core.Path.{◌≡◌, refl, sym, ap, ◌∙◌}
@@ -11,7 +12,7 @@ use Rattle.basics.specs.Text.{Text, same}
 use Rattle.basics.proofs.Counting.{length_up, up_at}
 use Rattle.basics.proofs.Texts.{same_refl, same_eq}
 use Rattle.book.specs.Book.{Book, names, size, name_text}
-use Rattle.name_search.specs.Names.{later, position, texts, first_name, number_or}
+use Rattle.name_search.specs.Names.{later, position, texts, first_name, maybe}
 use Rattle.name_search.proofs.Position.{First, position_some, position_none, some_position, none_position}
 
 differ : {x t : Text} → same x t ≡ false → ¬ (x ≡ t)
@@ -72,39 +73,21 @@ module _ (b : Book) where
     unfolding first_name
     first_none k e h q = differ (position_none t (texts b) e k (omega (arith, texts_length))) (text_at k h ∙ q)
 
-    -- ---- from the number that a search answers to the two cases
-    pub number_found : {r : ℕ} → r ≡ number_or (size b names) (first_name b t) → r < size b names → first_name b t ≡ some r
-    unfolding number_or
-    number_found {r} e h = at (first_name b t) e
-      where
-        at : (o : Option ℕ) → r ≡ number_or (size b names) o → o ≡ some r
-        at none q = absurd (omega arith)
-        at (some n) q = ap some (sym q)
+    -- ---- a search by the numbers, from the lowest on
+    abbrev pub Found : ℕ → Bool → Type 0
+    Found n r = same (name_text b n) t ≡ r
 
-    pub number_none : {r : ℕ} → r ≡ number_or (size b names) (first_name b t) → size b names ≤ r → first_name b t ≡ none
-    unfolding number_or
-    number_none {r} e h = at (first_name b t) refl e
-      where
-        at : (o : Option ℕ) → first_name b t ≡ o → r ≡ number_or (size b names) o → o ≡ none
-        at none p q = refl
-        at (some n) p q = absurd (omega (arith, first_below n p))
-
-    -- ---- a search from the lowest number on: none before n has the text
     abbrev pub NoneBefore : ℕ → Type 0
-    NoneBefore n = (k : ℕ) → k < n → same (name_text b k) t ≡ false
+    NoneBefore n = (k : ℕ) → 0 ≤ k → k < n → Found k false
 
-    pub found_here : (n : ℕ) {r : Bool} → n < size b names → r ≡ same (name_text b n) t → r ≡ true → NoneBefore n → n ≡ number_or (size b names) (first_name b t)
-    unfolding first_name number_or
-    found_here n h e y before = rw (some_position t (texts b) n found)
-      where
-        found : First t (texts b) n
-        found =
-            record {
-              below = omega (arith, texts_length);
-              here = rw (text_at n h) (sym e ∙ y);
-              before = λ k l. rw (text_at k (omega arith)) (before k l);
-            }
-
-    pub found_nowhere : (n all : ℕ) → all ≡ size b names → all ≤ n → NoneBefore n → all ≡ number_or (size b names) (first_name b t)
-    unfolding first_name number_or
-    found_nowhere n all e h before = rw (none_position t (texts b) (λ k l. rw (text_at k (omega (arith, texts_length))) (before k (omega (arith, texts_length))))) e
+    pub search_told : {all : ℕ} (r : code.Option ℕ) → all ≡ size b names → MatchOption r (NoneBefore all) (λ n. (0 ≤ n) × (n < all) × Found n true × NoneBefore n) → maybe r ≡ first_name b t
+    unfolding maybe first_name
+    search_told None e h = sym (none_position t (texts b) (λ k l. rw (text_at k (omega (arith, texts_length))) (h k (omega arith) (omega (arith, texts_length)))))
+    search_told (Some n) e h =
+        sym
+        (some_position t (texts b) n
+        (record {
+          below = omega (arith, texts_length, h.1);
+          here = rw (text_at n (omega (arith, h.1))) h.2;
+          before = λ k l. rw (text_at k (omega (arith, h.1))) (h.3 k (omega arith) l);
+        }))

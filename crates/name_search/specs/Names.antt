@@ -1,5 +1,6 @@
 -- The first name with a text: the one with the lowest number, whether or not a record uses it.
-use Rattle.std.specs.Prelude.{ℕ, suc, List, [], ◌∷◌, map, if◌then◌else◌}
+use Rattle.std.specs.Prelude.{ℕ, suc, List, [], ◌∷◌, map, Some, None, if◌then◌else◌}
+use Rattle.std.specs.Prelude as code
 use Rattle.std.proofs.Math.Option.{Option, none, some}
 use Rattle.basics.specs.Text.{Text, same}
 use Rattle.basics.specs.Lists.{up_to}
@@ -25,3 +26,8 @@ first_name b t = position t (texts b)
 unfoldable pub number_or : ℕ → Option ℕ → ℕ
 number_or other none = other
 number_or other (some n) = n
+
+-- what the code's option holds
+unfoldable pub maybe : {A : Type 0} → code.Option A → Option A
+maybe None = none
+maybe (Some x) = some x

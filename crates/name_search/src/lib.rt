@@ -4,7 +4,7 @@ ghost use Rattle.std.specs.Prelude.{◌≡◌, ◌<◌};
 ghost use Rattle.basics.specs.Text.{same};
 ghost use Rattle.book.specs.Book.{names, size, name_text};
 ghost use Rattle.book_test.specs.Promise.{Promise};
-ghost use Rattle.name_search.specs.Names.{first_name, number_or};
+ghost use Rattle.name_search.specs.Names.{first_name, maybe};
 
 use basics::same;
 use book::format::{NAME_LENGTH, NAMES};
@@ -12,7 +12,7 @@ use book::{count, field, name};
 
 mod probe;
 
-pub use probe::{PROBE_MOST, ProbeName, probe_name};
+pub use probe::{PROBE_MOST, ProbeName, filled, probe_name};
 
 // Name n has the text. Most names have another length, and their letters are not looked at.
 fn has_text(book: &[u8], n: usize, text: &[u8]) -> bool
@@ -25,18 +25,15 @@ fn has_text(book: &[u8], n: usize, text: &[u8]) -> bool
     same(name(book, n), text)
 }
 
-// The lowest number of a name with the text; as many as there are names where none has it.
-pub fn find_name(book: &[u8], text: &[u8]) -> usize
+// The lowest number of a name with the text.
+pub fn find_name(book: &[u8], text: &[u8]) -> Option<usize>
     requires { Promise book.now }
-    ensures { result ≡ number_or (size book.now names) (first_name book.now text.now) }
+    ensures { maybe result ≡ first_name book.now text.now }
 {
-    let all = count(book, NAMES);
-    let mut n = 0;
-    while n < all {
-        if has_text(book, n, text) {
-            return n;
-        }
-        n += 1;
-    }
-    all
+    (0..count(book, NAMES)).find(
+        |&n|
+            requires { Promise book.now × (n < size book.now names) }
+            ensures { result ≡ same (name_text book.entry.now n) text.entry.now }
+        { has_text(book, n, text) },
+    )
 }

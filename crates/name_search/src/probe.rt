@@ -1,20 +1,25 @@
 // The name of a probe: Record's constant, which is named by the depth of its parent.
-ghost use Rattle.std.specs.Prelude.{◌≤◌};
+ghost use Rattle.std.specs.Prelude.{◌≡◌, ◌≤◌, take};
 ghost use Rattle.basics.specs.Write.{Wrote};
 ghost use Rattle.book.specs.Book.{depth_most};
 ghost use Rattle.name_search.specs.Probe.{probe_name};
 ghost use Rattle.name_search.specs.ProbeText.{IsProbeName};
 
+use arrayvec::ArrayVec;
 use basics::{clip, put_all, put_u64, sum};
 
 // Letters of the longest such name: the word, and a depth of three digits.
 pub const PROBE_MOST: usize = 9;
 
-// The name is the first `length` letters of the text.
-#[derive(Drop)]
-pub struct ProbeName {
-    pub text: [u8; PROBE_MOST],
-    pub length: usize,
+pub type ProbeName = ArrayVec<u8, PROBE_MOST>;
+
+// The first bytes of a buffer that a writer filled so far.
+pub fn filled<const N: usize>(bytes: [u8; N], length: usize) -> ArrayVec<u8, N>
+    ensures { result.items ≡ take length bytes.entry }
+{
+    let mut first = ArrayVec::from_array_in((), bytes);
+    first.truncate(length);
+    first
 }
 
 fn put_probe(depth: usize, out: &mut [u8]) -> usize
@@ -33,8 +38,5 @@ pub fn probe_name(depth: usize) -> ProbeName
 {
     let mut text = [0; PROBE_MOST];
     let length = put_probe(depth, &mut text);
-    ProbeName {
-        text: text,
-        length: length,
-    }
+    filled(text, length)
 }

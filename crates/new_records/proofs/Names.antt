@@ -1,145 +1,156 @@
 -- Where a text stands among the names of a book and the new ones behind them.
-use Rattle.std.specs.Prelude.{if◌then◌else◌}
-use Prim.Native.Nat.{ℕ, ◌+◌, ◌≤◌, ◌<◌}
+use Rattle.std.specs.Prelude.{Some, None, if◌then◌else◌}
+use Rattle.std.specs.Prelude as code
+use Prim.Native.Nat.{ℕ, suc, ◌+◌, ◌≤◌, ◌<◌}
 use native.Mathlib.Omega.{arith}
+use denote.Bor.{Bor}
 use mathlib.Core.Path.{◌≡◌, refl, sym, ap, ◌∙◌}
-use mathlib.Core.Bool.{Bool, true, false, ◌&&◌}
-use mathlib.Core.List.{List, [], ◌++◌, append-nil}
+use mathlib.Core.Bool.{Bool, true, false, not}
+use mathlib.Core.List.{List, [], ◌∷◌, ◌++◌, append-nil}
 use mathlib.Core.Option.{Option, none, some}
 use lib.ListN.{length, length-append}
-use Rattle.basics.specs.Text.{Text, same, given}
+use Rattle.basics.specs.Text.{Text, same}
 use Rattle.book.specs.Book.{Book, names, size}
-use Rattle.name_search.specs.Names.{later, position, texts, first_name, number_or}
-use Rattle.name_search.proofs.Searching.{or_later, position_append, texts_length, number_found, number_none}
+use Rattle.name_search.specs.Names.{later, position, texts, first_name, number_or, maybe}
+use Rattle.name_search.proofs.Searching.{or_later, position_append, texts_length, first_below}
+use Rattle.new_records.specs.Drafts.{all_letters}
 use Rattle.new_records.specs.Naming.{named_by, named, equals, probe_named, equals_named, trace_named}
-use Rattle.new_records.specs.NewNames.{optional, new_before, one_if, is_none, IsBehind, IsNamed, AreNamed}
+use Rattle.new_records.specs.NewNames.{maybe_text, optional, new_text, new_before, is_none, stands, IsBehind, IsNamed, AreNamed}
+use Rattle.new_records.proofs.Parts.{letters_append}
 use Rattle.new_records.specs.declared.naming.Numbered.{Numbered}
+use Rattle.new_records.specs.declared.naming.Before.{Before}
 
-pub one_most : (p : Bool) → one_if p ≤ 1
-unfolding one_if
-one_most true = omega arith
-one_most false = omega arith
+abbrev New : Type 0
+New = code.Option (Bor Text)
 
--- ---- new texts
-pub new-before : (P : Text) (p e : Bool) → new_before P p e ≡ optional p P ++ optional e equals
-unfolding new_before optional
-new-before P p true = refl
-new-before P p false = sym (append-nil (optional p P))
+pub text_most : (o : New) → length (new_text o) ≤ 1
+text_most None = omega arith
+text_most (Some t) = omega arith
 
-length_optional : (p : Bool) (t : Text) → length (optional p t) ≡ one_if p
-unfolding optional one_if
-length_optional true t = refl
-length_optional false t = refl
+pub stands_one : (t x : Text) → same x t ≡ stands t (x ∷ [])
+unfolding stands position later is_none
+stands_one t x = at (same x t)
+  where
+    at : (s : Bool) → s ≡ not (is_none (if s then some 0 else later none))
+    at true = refl
+    at false = refl
 
-pub length_new : (P : Text) (p e : Bool) → length (new_before P p e) ≡ one_if p + one_if e
-length_new P p e = ap length (new-before P p e) ∙ omega (arith, length-append (optional p P) (optional e equals), length_optional p P, length_optional e equals)
+pub stands_none : (t : Text) → false ≡ stands t []
+unfolding stands position is_none
+stands_none t = refl
 
 -- ---- the place of a text among them
-position_optional : (p : Bool) (P t : Text) → position t (optional p P) ≡ (if p && same P t then some 0 else none)
-unfolding position optional later
-position_optional true P t = refl
-position_optional false P t = refl
+where_stands : (t : Text) (o : New) → stands t (new_text o) ≡ true → position t (new_text o) ≡ some 0
+unfolding stands position later is_none
+where_stands t None h = absurd (cc)
+where_stands t (Some x) h = at (same x.now t) h
+  where
+    at : (s : Bool) → not (is_none (if s then some 0 else later none)) ≡ true → (if s then some 0 else later none) ≡ some 0
+    at true h = refl
+    at false h = absurd (cc)
 
-position_new : (P t : Text) (p e : Bool) → position t (new_before P p e) ≡ or_later (if p && same P t then some 0 else none) (one_if p) (if e && same equals t then some 0 else none)
-position_new P t p e =
-    rw (new-before P p e, position_append t (optional p P) (optional e equals), position_optional p P t, position_optional e equals t, length_optional p P)
+stands_not : (t : Text) (ts : List Text) → stands t ts ≡ false → position t ts ≡ none
+unfolding stands is_none
+stands_not t ts h = at (position t ts) h
+  where
+    at : (o : Option ℕ) → not (is_none o) ≡ false → o ≡ none
+    at none h = refl
+    at (some n) h = absurd (cc)
 
-module _ (all : ℕ) (P t : Text) (p e : Bool) where
-  pub stands_first : (p && same P t) ≡ true → IsBehind all t (new_before P p e) (record { number = all; new = false })
-  unfolding or_later number_or is_none
+module _ (all : ℕ) (t : Text) (m : Before) where
+  length_new : length (new_before m) ≡ length (new_text m.probe) + length (new_text m.equals)
+  length_new = length-append (new_text m.probe) (new_text m.equals)
+
+  pub stands_first : stands t (new_text m.probe) ≡ true → IsBehind all t (new_before m) (record { number = all; new = None })
+  unfolding or_later number_or is_none optional
   stands_first h =
-      let at : position t (new_before P p e) ≡ some 0 = position_new P t p e ∙ rw h in
+      let at : position t (new_before m) ≡ some 0 = position_append t (new_text m.probe) (new_text m.equals) ∙ rw (where_stands t m.probe h) in
       record { number = rw at (omega arith); new = rw at; low = omega arith }
 
-  pub stands_second : {n : ℕ} → n ≡ one_if p → (p && same P t) ≡ false → (e && same equals t) ≡ true → IsBehind all t (new_before P p e) (record { number = all + n; new = false })
-  unfolding or_later number_or is_none
+  pub stands_second : {n : ℕ} → n ≡ length (new_text m.probe) → stands t (new_text m.probe) ≡ false → stands t (new_text m.equals) ≡ true
+      → IsBehind all t (new_before m) (record { number = all + n; new = None })
+  unfolding or_later number_or is_none optional
   stands_second {n} one h h2 =
-      let at : position t (new_before P p e) ≡ some (one_if p + 0) = position_new P t p e ∙ rw (h, h2) in
-      record { number = rw at (omega arith); new = rw at; low = omega (arith, length_new P p e) }
+      let at : position t (new_before m) ≡ some (length (new_text m.probe) + 0) =
+      position_append t (new_text m.probe) (new_text m.equals) ∙ rw (stands_not t (new_text m.probe) h, where_stands t m.equals h2) in
+      record { number = rw at (omega arith); new = rw at; low = omega (arith, length_new) }
 
-  pub stands_nowhere : {n m : ℕ} → n ≡ one_if p → m ≡ one_if e → (p && same P t) ≡ false → (e && same equals t) ≡ false
-      → IsBehind all t (new_before P p e) (record { number = all + n + m; new = true })
-  unfolding or_later number_or is_none
-  stands_nowhere {n} {m} one two h h2 =
-      let at : position t (new_before P p e) ≡ none = position_new P t p e ∙ rw (h, h2) in
-      record { number = rw at (omega (arith, length_new P p e)); new = rw at; low = omega (arith, length_new P p e) }
+  pub stands_nowhere : (x : Bor Text) → x.now ≡ t → {n k : ℕ} → n ≡ length (new_text m.probe) → k ≡ length (new_text m.equals) → stands t (new_text m.probe) ≡ false
+      → stands t (new_text m.equals) ≡ false → IsBehind all t (new_before m) (record { number = all + n + k; new = Some x })
+  unfolding or_later number_or is_none optional
+  stands_nowhere x e {n} {k} one two h h2 =
+      let at : position t (new_before m) ≡ none =
+      position_append t (new_text m.probe) (new_text m.equals) ∙ rw (stands_not t (new_text m.probe) h, stands_not t (new_text m.equals) h2) in
+      record { number = rw at (omega (arith, length_new)); new = rw (at, e); low = omega (arith, length_new) }
 
 -- ---- among the book's names first
+optional_short : (p : Bool) (t : Text) → length (all_letters (optional p t)) ≤ length t
+unfolding optional all_letters
+optional_short true t = omega (arith, length-append t [])
+optional_short false t = omega arith
+
 module _ (b : Book) (t : Text) (before : List Text) where
-  pub named_found : {r : ℕ} → r ≡ number_or (size b names) (first_name b t) → r < size b names → IsNamed b t before (record { number = r; new = false })
-  unfolding named named_by first_name or_later optional
-  named_found {r} e h =
-      let at : position t (texts b ++ before) ≡ some r = position_append t (texts b) before ∙ rw (number_found b t e h) in
-      record { number = rw at; low = omega arith; texts = rw at (sym (append-nil before)) }
+  pub named_found : {r : ℕ} → maybe (Some r) ≡ first_name b t → IsNamed b t before (record { number = r; new = None })
+  unfolding named named_by first_name or_later all_letters maybe
+  named_found {r} e =
+      let at : position t (texts b ++ before) ≡ some r = position_append t (texts b) before ∙ rw (sym e) in
+      record { number = rw at; low = omega (arith, first_below b t r (sym e)); texts = rw at (sym (append-nil before)); short = omega arith }
 
-  behind_named : (o : Option ℕ) {r : Numbered} → position t (texts b ++ before) ≡ or_later none (size b names) o → r.number ≡ size b names + number_or (length before) o → r.new ≡ is_none o
-      → r.number ≤ size b names + length before → IsNamed b t before r
+  behind_named : (o : Option ℕ) {r : Numbered} → position t (texts b ++ before) ≡ or_later none (size b names) o → r.number ≡ size b names + number_or (length before) o
+      → new_text r.new ≡ optional (is_none o) t → r.number ≤ size b names + length before → IsNamed b t before r
   unfolding named named_by or_later number_or is_none optional
-  behind_named none at number new low = record { number = rw at number; low = low; texts = rw (at, new) }
-  behind_named (some m) at number new low = record { number = rw at number; low = low; texts = rw (at, new) (sym (append-nil before)) }
+  behind_named none {r = r} at number new low = record { number = rw at number; low = low; texts = rw (at, new); short = rw new (optional_short true t) }
+  behind_named (some m) {r = r} at number new low = record { number = rw at number; low = low; texts = rw (at, new) (sym (append-nil before)); short = rw new (optional_short false t) }
 
-  pub named_behind : {found : ℕ} {r : Numbered} → found ≡ number_or (size b names) (first_name b t) → size b names ≤ found → IsBehind (size b names) t before r → IsNamed b t before r
-  unfolding first_name
-  named_behind {r = r} e h w =
-      let at : position t (texts b ++ before) ≡ or_later none (size b names) (position t before) = position_append t (texts b) before ∙ rw (number_none b t e h, texts_length b) in
+  pub named_behind : {r : Numbered} → maybe None ≡ first_name b t → IsBehind (size b names) t before r → IsNamed b t before r
+  unfolding first_name maybe
+  named_behind {r = r} e w =
+      let at : position t (texts b ++ before) ≡ or_later none (size b names) (position t before) = position_append t (texts b) before ∙ rw (sym e, texts_length b) in
       behind_named (position t before) {r = r} at w.number w.new w.low
 
 -- ---- the probe's name, `=` and the trace
-module _ (b : Book) (P T : Text) {first operator : Numbered} (w1 : IsNamed b P [] first) (w2 : IsNamed b equals (optional first.new P) operator) where
+module _ (b : Book) (P : Text) {first operator : Numbered} (w1 : IsNamed b P [] first) (w2 : IsNamed b equals (new_text first.new ++ []) operator) where
   probe_is : (probe_named b P).number ≡ first.number
   unfolding probe_named
   probe_is = sym w1.number
 
-  probe_texts : (probe_named b P).texts ≡ optional first.new P
+  probe_texts : (probe_named b P).texts ≡ new_text first.new ++ []
   unfolding probe_named
-  probe_texts = w1.texts
+  probe_texts = w1.texts ∙ sym (append-nil (new_text first.new))
 
   equals_is : (equals_named b P).number ≡ operator.number
   unfolding equals_named
   equals_is = rw probe_texts (sym w2.number)
 
-  equals_texts : (equals_named b P).texts ≡ new_before P first.new operator.new
+  equals_texts : (equals_named b P).texts ≡ new_text first.new ++ new_text operator.new
   unfolding equals_named
-  equals_texts = rw probe_texts (w2.texts ∙ sym (new-before P first.new operator.new))
+  equals_texts = rw probe_texts w2.texts ∙ ap (λ (ts : List Text). ts ++ new_text operator.new) (append-nil (new_text first.new))
 
-  pub no_trace : {has : Bool} → has ≡ false
-      → AreNamed b P (given has T) T
-      (record {
-        probe = first.number;
-        probe_new = first.new;
-        equals = operator.number;
-        equals_new = operator.new;
-        trace = first.number;
-        trace_new = false;
-      })
-  unfolding given trace_named optional
-  no_trace h =
-      rw h
-      (record {
+  front_short : length (all_letters (new_text first.new ++ new_text operator.new)) ≤ suc (length P)
+  unfolding equals
+  front_short = omega (arith, ap length (letters_append (new_text first.new) (new_text operator.new)), length-append (all_letters (new_text first.new)) (all_letters (new_text operator.new)), w1.short, w2.short)
+
+  pub no_trace : AreNamed b P (maybe_text None) (record { probe = first; equals = operator; trace = record { number = first.number; new = None } })
+  unfolding maybe trace_named
+  no_trace =
+      record {
         probe = sym probe_is;
         equals = sym equals_is;
         trace = sym probe_is;
         low = omega (arith, w1.low);
-        texts = equals_texts ∙ sym (append-nil (new_before P first.new operator.new));
-      })
+        texts = equals_texts ∙ sym (append-nil (new_text first.new ++ new_text operator.new));
+        short = front_short;
+      }
 
-  pub some_trace : {has : Bool} {last : Numbered} → has ≡ true → IsNamed b T (new_before P first.new operator.new) last
-      → AreNamed b P (given has T) T
-      (record {
-        probe = first.number;
-        probe_new = first.new;
-        equals = operator.number;
-        equals_new = operator.new;
-        trace = last.number;
-        trace_new = last.new;
-      })
-  unfolding given trace_named
-  some_trace {last = last} h w3 =
-      rw h
-      (record {
+  pub some_trace : (T : Bor Text) {last : Numbered} → IsNamed b T.now (new_text first.new ++ new_text operator.new) last
+      → AreNamed b P (maybe_text (Some T)) (record { probe = first; equals = operator; trace = last })
+  unfolding maybe trace_named
+  some_trace T {last} w3 =
+      record {
         probe = sym probe_is;
         equals = sym equals_is;
         trace = rw equals_texts w3.number;
-        low = omega (arith, w3.low, length_new P first.new operator.new, one_most first.new, one_most operator.new);
+        low = omega (arith, w3.low, length-append (new_text first.new) (new_text operator.new), text_most first.new, text_most operator.new);
         texts = rw equals_texts w3.texts;
-      })
+        short = front_short;
+      }

@@ -3,7 +3,5 @@
 mod naming;
 mod rows;
 
-pub use naming::{
-    EQUALS, NameParts, Numbered, ProbeNames, name_parts, named, probe_names, range_start,
-};
-pub use rows::{ROW2, ROW3, ROW7, equality, row2, row3, row7};
+pub use naming::{Before, EQUALS, NameParts, Numbered, ProbeNames, name_parts, named, probe_names};
+pub use rows::{ROW2, ROW3, ROW7, equality, name_row, range_start, row};

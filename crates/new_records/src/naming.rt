@@ -1,237 +1,172 @@
 // The names that the four need: found or new, and the letters and rows of the new ones.
-ghost use Rattle.std.specs.Prelude.{◌≡◌, ◌&&◌, ◌*◌, ◌≤◌, length};
-ghost use Rattle.basics.specs.Text.{same, given};
+ghost use Rattle.std.specs.Prelude.{◌≡◌, ◌≤◌, length, suc};
 ghost use Rattle.basics.specs.Write.{WroteAt};
+ghost use Rattle.basics.specs.Bytes.{rows};
 ghost use Rattle.book.specs.Book.{letters, names};
 ghost use Rattle.book_test.specs.Promise.{Promise};
 ghost use Rattle.name_search.specs.Probe.{probe_most};
-ghost use Rattle.new_records.specs.Drafts.{range_start};
-ghost use Rattle.new_records.specs.NewNames.{one_if, new_before, IsBehind, IsNamed, text_if, row_if, length_if, AreNamed, AreLetters, AreParts};
+ghost use Rattle.new_records.specs.Drafts.{name_rows, all_letters};
+ghost use Rattle.new_records.specs.NewNames.{new_text, new_before, stands, IsBehind, IsNamed, AreNamed, AreParts, maybe_text};
 
-use super::rows::ROW2;
-use basics::{put_at, put_word, same};
+use super::rows::{ROW2, name_row};
+use arrayvec::ArrayVec;
+use basics::{put_at, same};
 use book::count;
 use book::format::NAMES;
-use name_search::{PROBE_MOST, find_name};
+use name_search::{PROBE_MOST, filled, find_name};
 
-// A name's number, and whether it is to be appended.
+// A name's number, and its text where it is to be appended.
 #[derive(Clone, Copy)]
-pub struct Numbered {
+pub struct Numbered<'a> {
     pub number: usize,
-    pub new: bool,
+    pub new: Option<&'a [u8]>,
+}
+
+// The texts that a call appends before another: the probe's name and `=`, where they are new.
+#[derive(Clone, Copy)]
+pub struct Before<'a> {
+    pub probe: Option<&'a [u8]>,
+    pub equals: Option<&'a [u8]>,
 }
 
 // The names of Record and RecordTracePoint.
 #[derive(Clone, Copy)]
-pub struct ProbeNames {
-    pub probe: usize,
-    pub probe_new: bool,
-    pub equals: usize,
-    pub equals_new: bool,
-    pub trace: usize,
-    pub trace_new: bool,
+pub struct ProbeNames<'a> {
+    pub probe: Numbered<'a>,
+    pub equals: Numbered<'a>,
+    pub trace: Numbered<'a>,
 }
 
-// The letters and rows of new names: the letters of the probe's name and `=`, and how many of the trace's; then a row for each.
+// Of new names: the letters of the probe's and `=`, and a row for each. The trace's letters are not copied.
 #[derive(Drop)]
 pub struct NameParts {
-    pub letters: [u8; FRONT],
-    pub letters_length: usize,
-    pub text_length: usize,
-    pub rows: [u8; THREE_ROWS],
-    pub rows_length: usize,
-}
-
-// The letters of the probe's name and `=`, as far as they are new, and where those of the first end.
-#[derive(Drop)]
-pub struct Letters {
-    pub bytes: [u8; FRONT],
-    pub probe: usize,
-    pub length: usize,
+    pub letters: ArrayVec<u8, FRONT>,
+    pub rows: ArrayVec<u8, THREE_ROWS>,
 }
 
 // A probe's name and `=`.
-const FRONT: usize = PROBE_MOST + EQUALS_LENGTH;
+const FRONT: usize = PROBE_MOST + 1;
 
 const THREE_ROWS: usize = 3 * ROW2;
 
 // The operator of equality.
-pub const EQUALS: [u8; EQUALS_LENGTH] = [b'='];
+pub const EQUALS: &[u8] = b"=";
 
-const EQUALS_LENGTH: usize = 1;
-
-fn one(b: bool) -> usize
-    ensures { result ≡ one_if b }
+// How many names a text that may be new is.
+fn counted(new: Option<&[u8]>) -> usize
+    ensures { result ≡ length (new_text new.entry) }
 {
-    if b { 1 } else { 0 }
+    usize::from(new.is_some())
 }
 
 // Whether a name that is new already has the text.
-fn stands(new: bool, name: &[u8], text: &[u8]) -> bool
-    ensures { result ≡ new && same name.now text.now }
+fn stands(new: Option<&[u8]>, text: &[u8]) -> bool
+    ensures { result ≡ stands text.now (new_text new.entry) }
 {
-    if !new {
-        return false;
+    match new {
+        Some(name) => same(name, text),
+        None => false,
     }
-    same(name, text)
 }
 
 // Of a text that the book's names, so many, don't have.
-fn new_name(all: usize, text: &[u8], probe: &[u8], probe_new: bool, equals_new: bool) -> Numbered
+fn new_name<'a>(all: usize, text: &'a [u8], before: &Before) -> Numbered<'a>
     requires { all ≤ names.most }
-    ensures { IsBehind all text.now (new_before probe.now probe_new equals_new) result }
+    ensures { IsBehind all text.now (new_before before.now) result }
 {
-    if stands(probe_new, probe, text) {
+    if stands(before.probe, text) {
         return Numbered {
             number: all,
-            new: false,
+            new: None,
         };
     }
-    let second = all + one(probe_new);
-    if stands(equals_new, &EQUALS, text) {
+    let second = all + counted(before.probe);
+    if stands(before.equals, text) {
         return Numbered {
             number: second,
-            new: false,
+            new: None,
         };
     }
     Numbered {
-        number: second + one(equals_new),
-        new: true,
+        number: second + counted(before.equals),
+        new: Some(text),
     }
 }
 
-// The first name with a text, among those of the book, a new one of the probe and a new `=`; or a new one.
-pub fn named(book: &[u8], text: &[u8], probe: &[u8], probe_new: bool, equals_new: bool) -> Numbered
+// The first name with a text, among those of the book and the new ones before; or a new one.
+pub fn named<'a>(book: &[u8], text: &'a [u8], before: &Before) -> Numbered<'a>
     requires { Promise book.now }
-    ensures { IsNamed book.now text.now (new_before probe.now probe_new equals_new) result }
+    ensures { IsNamed book.now text.now (new_before before.now) result }
 {
-    let all = count(book, NAMES);
-    let found = find_name(book, text);
-    if found < all {
-        return Numbered {
-            number: found,
-            new: false,
-        };
+    match find_name(book, text) {
+        Some(number) => Numbered { number, new: None },
+        None => new_name(count(book, NAMES), text, before),
     }
-    new_name(all, text, probe, probe_new, equals_new)
-}
-
-// A range's start, in its record.
-pub fn range_start(behind: usize, length: usize) -> usize
-    ensures { result ≡ range_start behind length }
-{
-    if length == 0 { 0 } else { behind }
 }
 
 // Writes a text at a place, if it is new.
-fn put_text(new: bool, text: &[u8], at: usize, out: &mut [u8]) -> usize
-    requires { at ≤ probe_most }
-    ensures { WroteAt (text_if new text.now) at out.old out.new result }
+fn put_text(new: Option<&[u8]>, at: usize, out: &mut [u8]) -> usize
+    requires { at ≤ suc probe_most }
+    ensures { WroteAt (all_letters (new_text new.entry)) at out.old out.new result }
 {
-    if !new {
-        return at;
+    match new {
+        Some(text) => put_at(text, at, out),
+        None => at,
     }
-    put_at(text, at, out)
 }
 
 // Writes a name's row at a place, if it is new.
-fn put_name(new: bool, behind: usize, length: usize, at: usize, out: &mut [u8]) -> usize
-    requires { at ≤ 2 * names.size }
-    ensures { WroteAt (row_if new behind length) at out.old out.new result }
+fn put_name(new: Option<&[u8]>, behind: usize, at: usize, out: &mut [u8]) -> usize
+    requires { at ≤ 16 }
+    ensures { WroteAt (rows (name_rows behind (new_text new.entry))) at out.old out.new result }
 {
-    if !new {
-        return at;
+    match new {
+        Some(text) => put_at(&name_row(behind, text.len()), at, out),
+        None => at,
     }
-    let next = put_word(range_start(behind, length), at, out);
-    put_word(length, next, out)
-}
-
-// The letters of the probe's name and `=`, as far as they are new.
-fn front_letters(probe: &[u8], probe_new: bool, equals_new: bool) -> Letters
-    requires { length probe.now ≤ probe_most }
-    ensures { AreLetters probe.now probe_new equals_new result }
-{
-    let mut bytes = [0; FRONT];
-    let next = put_text(probe_new, probe, 0, &mut bytes);
-    let length = put_text(equals_new, &EQUALS, next, &mut bytes);
-    Letters {
-        bytes: bytes,
-        probe: next,
-        length: length,
-    }
-}
-
-// How long a text is, if it is new.
-fn length_if(new: bool, length: usize) -> usize
-    ensures { result ≡ length_if new length }
-{
-    if new { length } else { 0 }
 }
 
 // The letters and rows of new names behind so many letters.
-pub fn name_parts(
-    behind: usize,
-    probe: &[u8],
-    probe_new: bool,
-    equals_new: bool,
-    text: &[u8],
-    text_new: bool,
-) -> NameParts
-    requires { (behind ≤ letters.most) × (length probe.now ≤ probe_most) }
-    ensures { AreParts behind probe.now probe_new equals_new text.now text_new result }
+pub fn name_parts(behind: usize, before: &Before, text: Option<&[u8]>) -> NameParts
+    requires { (behind ≤ letters.most) × (length (all_letters (new_before before.now)) ≤ suc probe_most) }
+    ensures { AreParts behind (new_before before.now) (new_text text.entry) result }
 {
-    let front = front_letters(probe, probe_new, equals_new);
-    let letters = front.bytes;
+    let mut letters = [0; FRONT];
+    let middle = put_text(before.probe, 0, &mut letters);
+    let length = put_text(before.equals, middle, &mut letters);
     let mut rows = [0; THREE_ROWS];
-    let second = put_name(probe_new, behind, probe.len(), 0, &mut rows);
-    let third = put_name(
-        equals_new,
-        behind + front.probe,
-        EQUALS_LENGTH,
-        second,
-        &mut rows,
-    );
-    let length = put_name(
-        text_new,
-        behind + front.length,
-        text.len(),
-        third,
-        &mut rows,
-    );
+    let second = put_name(before.probe, behind, 0, &mut rows);
+    let third = put_name(before.equals, behind + middle, second, &mut rows);
+    let end = put_name(text, behind + length, third, &mut rows);
     NameParts {
-        letters: letters,
-        letters_length: front.length,
-        text_length: length_if(text_new, text.len()),
-        rows: rows,
-        rows_length: length,
+        letters: filled(letters, length),
+        rows: filled(rows, end),
     }
 }
 
 // The names of Record and RecordTracePoint. Where no trace is given, the probe's name is the trace.
-pub fn probe_names(book: &[u8], probe: &[u8], has_trace: bool, trace: &[u8]) -> ProbeNames
+pub fn probe_names<'a>(book: &[u8], name: &'a [u8], trace: Option<&'a [u8]>) -> ProbeNames<'a>
     requires { Promise book.now }
-    ensures { AreNamed book.now probe.now (given has_trace trace.now) trace.now result }
+    ensures { AreNamed book.now name.now (maybe_text trace.entry) result }
 {
-    let nothing = [0; 0];
-    let first = named(book, probe, &nothing, false, false);
-    let operator = named(book, &EQUALS, probe, first.new, false);
-    if !has_trace {
-        return ProbeNames {
-            probe: first.number,
-            probe_new: first.new,
-            equals: operator.number,
-            equals_new: operator.new,
-            trace: first.number,
-            trace_new: false,
-        };
-    }
-    let last = named(book, trace, probe, first.new, operator.new);
+    let mut before = Before {
+        probe: None,
+        equals: None,
+    };
+    let probe = named(book, name, &before);
+    before.probe = probe.new;
+    let equals = named(book, EQUALS, &before);
+    before.equals = equals.new;
+    let trace = match trace {
+        Some(trace) => named(book, trace, &before),
+        None => Numbered {
+            number: probe.number,
+            new: None,
+        },
+    };
     ProbeNames {
-        probe: first.number,
-        probe_new: first.new,
-        equals: operator.number,
-        equals_new: operator.new,
-        trace: last.number,
-        trace_new: last.new,
+        probe,
+        equals,
+        trace,
     }
 }

@@ -1,18 +1,23 @@
 use Prim.Native.Nat.{◌+◌}
-use native.Mathlib.Omega.{arith}
 use mathlib.Core.Path.{refl}
-use lib.ListN.{length}
-use Rattle.new_records.proofs.Parts.{text_most, row_most, parts_are}
+use native.Mathlib.Omega.{arith}
+use Rattle.new_records.proofs.Parts.{middle_low, front_is, row_most, parts_are}
 use Rattle.new_records.proofs.naming.name_parts.Goals as goal
 
+pub put_text-length-requires : goal.put_text-length-requires
+put_text-length-requires c = middle_low _ c.requires.1 c.put_text-middle.ensures
+
 pub overflow_add-behind : goal.overflow_add-behind
-overflow_add-behind c = omega (arith, c.front_letters-front.ensures.probe, text_most c.args.probe_new c.args.probe.now)
+overflow_add-behind c = omega (arith, middle_low _ c.requires.1 c.put_text-middle.ensures)
 
 pub put_name-third-requires : goal.put_name-third-requires
-put_name-third-requires c = omega (arith, c.put_name-second.ensures.counted, row_most c.args.probe_new c.args.behind (length c.args.probe.now))
+put_name-third-requires c = omega (arith, c.put_name-second.ensures.counted, row_most c.args.behind c.args.before.now.probe)
 
-pub put_name-length-requires : goal.put_name-length-requires
-put_name-length-requires c = omega (arith, c.put_name-second.ensures.counted, row_most c.args.probe_new c.args.behind (length c.args.probe.now), c.put_name-third.ensures.counted, row_most c.args.equals_new (c.args.behind + c.front_letters-front.result.probe) 1)
+pub overflow_add-behind-2 : goal.overflow_add-behind-2
+overflow_add-behind-2 c = omega (arith, front_is _ c.requires.1 c.put_text-middle.ensures c.put_text-length.ensures, c.requires.1)
+
+pub put_name-end-requires : goal.put_name-end-requires
+put_name-end-requires c = omega (arith, c.put_name-second.ensures.counted, row_most c.args.behind c.args.before.now.probe, c.put_name-third.ensures.counted, row_most (c.args.behind + c.put_text-middle.result) c.args.before.now.equals)
 
 pub returns : goal.returns
-returns c = parts_are c.args.probe.now c.args.probe_new c.args.equals_new c.args.text.now c.args.text_new c.front_letters-front.ensures c.length_if.ensures c.put_name-second.ensures c.put_name-third.ensures c.put_name-length.ensures refl
+returns c = parts_are _ c.requires.1 c.put_text-middle.ensures c.put_text-length.ensures _ _ c.put_name-second.ensures c.put_name-third.ensures c.put_name-end.ensures refl refl c.filled.ensures c.filled-2.ensures

@@ -2,8 +2,8 @@ use native.Mathlib.Omega.{arith}
 use Rattle.new_records.proofs.Names.{named_found, named_behind}
 use Rattle.new_records.proofs.naming.named.Goals as goal
 
-pub returns-then-found-all : goal.returns-then-found-all
-returns-then-found-all c = named_found _ _ _ c.find_name-found.ensures (omega (arith, c.count-all.ensures.is, c.if-found-all.true))
+pub returns-in-Some : goal.returns-in-Some
+returns-in-Some c = named_found _ _ _ (rw c.in-Some.is at c.find_name.ensures)
 
-pub returns : goal.returns
-returns c = named_behind _ _ _ c.find_name-found.ensures (omega (arith, c.count-all.ensures.is, c.if-found-all.false)) (rw c.count-all.ensures.is at c.new_name.ensures)
+pub returns-in-None : goal.returns-in-None
+returns-in-None c = named_behind _ _ _ (rw c.in-None.is at c.find_name.ensures) (rw c.count.ensures.is at c.new_name.ensures)

@@ -1,9 +1,11 @@
-use Rattle.new_records.proofs.Parts.{row_skipped, row_put}
-use Rattle.std.proofs.lemmas.Bool.{not_from_false, not_from_true}
+use native.Mathlib.Omega.{arith}
+use mathlib.Core.Path.{◌∙◌}
+use Rattle.basics.proofs.Places.{at_as}
+use Rattle.new_records.proofs.Parts.{row_one, rows_none}
 use Rattle.new_records.proofs.naming.put_name.Goals as goal
 
-pub returns-then-not-new : goal.returns-then-not-new
-returns-then-not-new c = row_skipped c.args.new c.args.behind c.args.length (not_from_false _ c.if-not-new.true) c.requires
+pub returns-in-Some : goal.returns-in-Some
+returns-in-Some c = rw c.in-Some.is (at_as (c.name_row.ensures ∙ row_one c.args.behind c.in-Some.text.now) c.put_at.ensures)
 
-pub returns : goal.returns
-returns c = row_put c.args.new c.args.behind c.args.length c.range_start.result (not_from_true _ c.if-not-new.false) c.range_start.ensures c.put_word-next.ensures c.put_word.ensures c.well_formed.1.1.1.1.0.0
+pub returns-in-None : goal.returns-in-None
+returns-in-None c = rw c.in-None.is (rows_none _ (omega arith))

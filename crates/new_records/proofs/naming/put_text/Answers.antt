@@ -1,9 +1,10 @@
-use Rattle.new_records.proofs.Parts.{text_skipped, text_put}
-use Rattle.std.proofs.lemmas.Bool.{not_from_false, not_from_true}
+use native.Mathlib.Omega.{arith}
+use Rattle.basics.proofs.Places.{at_as}
+use Rattle.new_records.proofs.Parts.{letters_one, letters_none}
 use Rattle.new_records.proofs.naming.put_text.Goals as goal
 
-pub returns-then-not-new : goal.returns-then-not-new
-returns-then-not-new c = text_skipped c.args.new c.args.text.now (not_from_false _ c.if-not-new.true) c.requires
+pub returns-in-Some : goal.returns-in-Some
+returns-in-Some c = rw c.in-Some.is (at_as (letters_one c.in-Some.text.now) c.put_at.ensures)
 
-pub returns : goal.returns
-returns c = text_put c.args.new (not_from_true _ c.if-not-new.false) c.put_at.ensures
+pub returns-in-None : goal.returns-in-None
+returns-in-None c = rw c.in-None.is (letters_none (omega arith))

@@ -1,9 +1,9 @@
-use borrow.Author.Tests.{not-true, not-false}
-use Rattle.std.proofs.lemmas.Bool.{not_from_false, not_from_true}
+use mathlib.Core.Path.{◌∙◌}
+use Rattle.new_records.proofs.Names.{stands_one, stands_none}
 use Rattle.new_records.proofs.naming.stands.Goals as goal
 
-pub returns-then-not-new : goal.returns-then-not-new
-returns-then-not-new c = rw (not-true c.args.new (not_from_false _ c.if-not-new.true))
+pub returns-in-Some : goal.returns-in-Some
+returns-in-Some c = rw c.in-Some.is (c.same.ensures ∙ stands_one c.args.text.now c.in-Some.name.now)
 
-pub returns : goal.returns
-returns c = rw (not-false c.args.new (not_from_true _ c.if-not-new.false)) c.same.ensures
+pub returns-in-None : goal.returns-in-None
+returns-in-None c = rw c.in-None.is (stands_none c.args.text.now)

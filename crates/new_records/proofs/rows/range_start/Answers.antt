@@ -1,6 +1,6 @@
 use Rattle.new_records.specs.Drafts.{range_start}
 use Rattle.new_records.proofs.Parts.{range_some}
-use Rattle.new_records.proofs.naming.range_start.Goals as goal
+use Rattle.new_records.proofs.rows.range_start.Goals as goal
 
 pub returns-then-length-eq0 : goal.returns-then-length-eq0
 unfolding range_start
