@@ -32,21 +32,12 @@ replicate_more {A} i a = ap {B = List A} (λ (k : ℕ). replicate k a) (add-one 
     more zero = refl
     more (suc i) = ap {B = List A} (λ (l : List A). a ∷ l) (more i)
 
-pub record Popping (count i : ℕ) (o o1 : List ℕ) (at : ℕ) : Type 0 where
-  pub few : i ≤ count
-  pub text : WroteAt (script (replicate i Pop)) 0 o o1 at
-
-pub popping_start : (count : ℕ) (o : List ℕ) → Popping count 0 o o 0
+pub popping_none : (o : List ℕ) → WroteAt (script (replicate 0 Pop)) 0 o o 0
 unfolding script
-popping_start count o = record { few = omega arith; text = at_none 0 o (omega arith) }
+popping_none o = at_none 0 o (omega arith)
 
-pub popping_more : {count i : ℕ} {o o1 o2 : List ℕ} {at r : ℕ} → length o < MOST + 1 → i < count → Popping count i o o1 at → WroteAt (script (Pop ∷ [])) at o1 o2 r → Popping count (i + 1) o o2 r
-popping_more {i = i} short h p w = record { few = omega arith; text = at_as (ap script (sym (replicate_more i Pop))) (said_then _ (Pop ∷ []) short p.text w) }
-
-pub popping_done : {count i : ℕ} {o o1 : List ℕ} {at : ℕ} → count ≤ i → Popping count i o o1 at → WroteAt (script (replicate count Pop)) 0 o o1 at
-popping_done {count} {i} {o} {o1} {at} h p =
-    let e : i ≡ count = omega (arith, p.few) in
-    subst (λ (n : ℕ). WroteAt (script (replicate n Pop)) 0 o o1 at) e p.text
+pub popping_more : (i : ℕ) {o o1 o2 : List ℕ} {at r : ℕ} → length o < MOST + 1 → WroteAt (script (replicate i Pop)) 0 o o1 at → WroteAt (script (Pop ∷ [])) at o1 o2 r → WroteAt (script (replicate (i + 1) Pop)) 0 o o2 r
+popping_more i short p w = at_as (ap script (sym (replicate_more i Pop))) (said_then _ (Pop ∷ []) short p w)
 
 -- ---- the move
 module _ {b : Book} (P : Promise b) (old new : ℕ) {count : ℕ} (pops : count ≡ pops_of (program b) old new) where

@@ -6,4 +6,4 @@ use borrow.Author.Rules.{rules}
 use Rattle.engine.proofs.context.depth_of.Goals as goal
 
 pub returns : goal.returns
-returns c = let n : length c.path_of-path.result.nodes ≡ depth_most = search rules in depth_is _ _ _ _ c.path_of-path.ensures.is n c.path_of-path.ensures.few
+returns c = let n : length c.path_of.result.nodes ≡ depth_most = search rules in depth_is _ _ _ _ c.path_of.ensures.is n c.path_of.ensures.few

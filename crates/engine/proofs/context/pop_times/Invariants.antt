@@ -1,9 +1,7 @@
-use Prim.Native.Nat.{◌-◌}
-use Rattle.engine.proofs.Moving.{Popping}
+use lib.ListN.{replicate}
+use Rattle.basics.specs.Write.{WroteAt}
+use Rattle.smt_engines.specs.Command.{Pop, script}
 use Rattle.engine.proofs.context.pop_times.Given as goal
 
-abbrev pub invariant-loop-i : goal.invariant-loop-i
-invariant-loop-i l = Popping l.count l.i l.initial.out l.out l.at
-
-abbrev pub decreases-loop-i : goal.decreases-loop-i
-decreases-loop-i l = l.count - l.i
+abbrev pub invariant-loop : goal.invariant-loop
+invariant-loop l = WroteAt (script (replicate l.counter Pop)) 0 l.initial.out l.out l.at

@@ -14,4 +14,4 @@ pub descend-requires : goal.descend-requires
 descend-requires c = downward c.requires.promise _ _ c.pops-count.ensures.0 _ c.requires.to c.requires.levels c.requires.clear (rw (← c.depth_of.ensures) c.clear_above.ensures) (rw (← c.depth_of.ensures, ← c.depth_of-2.ensures) refl) refl
 
 pub returns : goal.returns
-returns c = reached c.requires.promise _ _ c.pops-count.ensures.0 c.well_formed.1.1.1.1.0.0 (rw (← c.depth_of.ensures, ← c.depth_of-2.ensures) refl) c.pop_times-at.ensures c.descend.ensures
+returns c = reached c.requires.promise _ _ c.pops-count.ensures.0 c.well_formed.1.1.1.1.0.0 (rw (← c.depth_of.ensures, ← c.depth_of-2.ensures) refl) c.pop_times.ensures c.descend.ensures
