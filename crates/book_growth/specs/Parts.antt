@@ -1,5 +1,5 @@
 -- What the code appends, and the counts of a grown book as it writes them.
-use Rattle.std.specs.Prelude.{ℕ, ◌+◌, List, [], ◌∷◌, ◌++◌}
+use Rattle.std.specs.Prelude.{ℕ, ◌+◌, List, [], ◌∷◌, ◌++◌, get_or}
 use Rattle.book.specs.Book.{Book, Section, letters, names, types, constants, functions, axioms, patterns, terms, contexts, lists, size}
 use Rattle.book_layout.specs.Layout.{count_of}
 use Rattle.book_growth.specs.Growth.{Addition, addition, added}
@@ -8,6 +8,13 @@ use Rattle.book_growth.specs.declared.Additions.{Additions}
 -- new letters and new list entries come in two parts
 abbrev pub addition_by : Additions → Addition
 addition_by m = addition (m.letters.now ++ m.text.now) m.names.now m.constants.now m.terms.now m.contexts.now (m.first.now ++ m.second.now)
+
+-- what is appended to a section, in two parts
+unfoldable pub part : Additions → ℕ → List ℕ
+part m n = get_or (m.letters.now ∷ m.names.now ∷ [] ∷ m.constants.now ∷ [] ∷ [] ∷ [] ∷ m.terms.now ∷ m.contexts.now ∷ m.first.now ∷ []) n []
+
+unfoldable pub rest : Additions → ℕ → List ℕ
+rest m n = get_or (m.text.now ∷ [] ∷ [] ∷ [] ∷ [] ∷ [] ∷ [] ∷ [] ∷ [] ∷ m.second.now ∷ []) n []
 
 unfoldable pub grown_count : Book → Addition → Section → ℕ
 grown_count b a s = size b s + count_of (added a) s

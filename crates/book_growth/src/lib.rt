@@ -8,7 +8,7 @@ ghost use Rattle.book.specs.Book.{size};
 ghost use Rattle.book_contents.specs.Contents.{laid_out};
 ghost use Rattle.book_layout.specs.Layout.{body_at, count_of};
 ghost use Rattle.book_growth.specs.Growth.{added, grown_body, grows_by, grows_within, Whole, grown};
-ghost use Rattle.book_growth.specs.Parts.{addition_by, grown_count, grown_counts};
+ghost use Rattle.book_growth.specs.Parts.{addition_by, part, rest, grown_count, grown_counts};
 
 use basics::{put_at, sum};
 use book::count;
@@ -16,33 +16,57 @@ use book::format::{CONSTANTS, CONTEXTS, LETTERS, LISTS, NAMES, SECTIONS, SIZES, 
 use book_contents::LIMITS;
 use book_layout::{put_section, put_table};
 
-// What is appended to a book: the bytes of new records.
+// What is appended to a book: the bytes of new records. A text and lists that were handed over live longer than the rows that are made here.
 #[derive(Clone, Copy)]
-pub struct Additions<'a> {
-    pub letters: &'a [u8],
-    pub text: &'a [u8],
-    pub names: &'a [u8],
-    pub constants: &'a [u8],
-    pub terms: &'a [u8],
-    pub contexts: &'a [u8],
-    pub first: &'a [u8],
-    pub second: &'a [u8],
+pub struct Additions<'t, 'r, 'l> {
+    pub letters: &'r [u8],
+    pub text: &'t [u8],
+    pub names: &'r [u8],
+    pub constants: &'r [u8],
+    pub terms: &'r [u8],
+    pub contexts: &'r [u8],
+    pub first: &'l [u8],
+    pub second: &'l [u8],
 }
 
-impl<'a> Additions<'a> {
-    // What is appended to a section, in two parts.
-    fn parts(&self, section: usize) -> (&'a [u8], &'a [u8])
+// Nothing: a call names what it appends besides.
+pub const NOTHING: Additions = Additions {
+    letters: b"",
+    text: b"",
+    names: b"",
+    constants: b"",
+    terms: b"",
+    contexts: b"",
+    first: b"",
+    second: b"",
+};
+
+impl<'t, 'r, 'l> Additions<'t, 'r, 'l> {
+    // What is appended to a section.
+    fn part(&self, section: usize) -> &[u8]
         requires { section < 10 }
-        ensures { result.0.now ++ result.1.now ≡ added (addition_by self.now) (section_at section) }
+        ensures { result.now ≡ part self.now section }
     {
         match section {
-            LETTERS => (self.letters, self.text),
-            NAMES => (self.names, b""),
-            CONSTANTS => (self.constants, b""),
-            TERMS => (self.terms, b""),
-            CONTEXTS => (self.contexts, b""),
-            LISTS => (self.first, self.second),
-            _ => (b"", b""),
+            LETTERS => self.letters,
+            NAMES => self.names,
+            CONSTANTS => self.constants,
+            TERMS => self.terms,
+            CONTEXTS => self.contexts,
+            LISTS => self.first,
+            _ => b"",
+        }
+    }
+
+    // And what comes behind that.
+    fn rest(&self, section: usize) -> &[u8]
+        requires { section < 10 }
+        ensures { result.now ≡ rest self.now section }
+    {
+        match section {
+            LETTERS => self.text,
+            LISTS => self.second,
+            _ => b"",
         }
     }
 }
@@ -52,9 +76,8 @@ fn grows_by(book: &[u8], more: &Additions, section: usize) -> bool
     requires { (section < 10) × Laid book.now (section_at section) }
     ensures { result ≡ grows_by book.now (addition_by more.now) section }
 {
-    let (first, second) = more.parts(section);
-    let room = LIMITS[section] - count(book, section);
-    sum(first.len(), second.len()) / SIZES[section] <= room
+    let bytes = sum(more.part(section).len(), more.rest(section).len());
+    bytes / SIZES[section] <= LIMITS[section] - count(book, section)
 }
 
 // Refusal 3 of a grown book, by counts.
@@ -75,8 +98,8 @@ fn grown_count(book: &[u8], more: &Additions, section: usize) -> usize
     requires { (section < 10) × Laid book.now (section_at section) × (size book.now (section_at section) + count_of (added (addition_by more.now)) (section_at section) ≤ (section_at section).most) }
     ensures { result ≡ grown_count book.now (addition_by more.now) (section_at section) }
 {
-    let (first, second) = more.parts(section);
-    count(book, section) + (first.len() + second.len()) / SIZES[section]
+    let bytes = more.part(section).len() + more.rest(section).len();
+    count(book, section) + bytes / SIZES[section]
 }
 
 // The counts of a grown book.
@@ -96,9 +119,8 @@ fn put_grown(book: &[u8], more: &Additions, section: usize, at: usize, out: &mut
     requires { (section < 10) × Laid book.now (section_at section) }
     ensures { WroteAt (grown_body book.now (addition_by more.now) (section_at section)) at out.old out.new result }
 {
-    let (first, second) = more.parts(section);
-    let next = put_section(book, section, first, at, out);
-    put_at(second, next, out)
+    let next = put_section(book, section, more.part(section), at, out);
+    put_at(more.rest(section), next, out)
 }
 
 // Writes a grown book at the front of a buffer, as far as the buffer goes, and answers its length.

@@ -1,4 +1,7 @@
 -- What the code appends is what the definitions say, call by call.
+use Rattle.std.specs.Prelude.{Some, None, unwrap_or}
+use Rattle.std.specs.Prelude as code
+use denote.Bor.{Bor}
 use Prim.Native.Nat.{ℕ, zero, suc, ◌+◌, ◌*◌, ◌/◌, ◌≤◌}
 use native.Mathlib.Omega.{arith}
 use native.Mathlib.Numerals.{add-one}
@@ -13,22 +16,24 @@ use Rattle.basics.specs.Bytes.{row, rows}
 use Rattle.basics.specs.Text.{Text}
 use Rattle.book.specs.Book.{Book, letters, names, terms, lists, size}
 use Rattle.book_growth.specs.Growth.{Addition, addition, Whole}
-use Rattle.new_records.specs.Drafts.{NewTerm, new_constant, identifier, equality, new_node, range_start, name_row, name_rows, all_letters, constant_row, term_row, node_row, addition_from}
+use Rattle.name_search.specs.Names.{maybe}
+use Rattle.new_records.proofs.Parts.{letters_append}
+use Rattle.new_records.specs.Drafts.{NewTerm, NewNode, new_constant, identifier, equality, new_node, range_start, name_row, name_rows, all_letters, constant_row, term_row, node_row, addition_from}
 use Rattle.new_records.specs.Naming.{named, equals, trace_named}
-use Rattle.new_records.specs.NewNames.{optional, new_before, IsNamed, AreNamed, AreParts}
+use Rattle.new_records.specs.NewNames.{maybe_text, new_text, IsNamed, AreNamed, AreParts}
 use Rattle.new_records.specs.declared.naming.Numbered.{Numbered}
 use Rattle.new_records.specs.declared.naming.ProbeNames.{ProbeNames}
 use Rattle.new_records.specs.declared.naming.NameParts.{NameParts}
 use Rattle.book_writer.specs.Growths.{Growth, term_right, append_name, append_constant, append_term, append_node, extend, extend_with_equality, ranges_of, filled, entry_count, whole_entries, term_lists, extend_draft, equality_terms, equality_draft, probe_terms, probe_equality, probe_draft_by, draft_of, addition_of}
-use Rattle.book_writer.specs.Coded.{append_in, Appends, IsTermRow, listed_bytes, AreRows}
-use Rattle.book_writer.specs.declared.Appended.{Appended}
+use Rattle.book_writer.specs.Coded.{append_in, Appends, IsTraced, IsTermRow, listed_bytes, AreRows}
+use Rattle.book_writer.specs.Writing.{Answer}
 use Rattle.book_writer.specs.declared.probe_rows.ProbeRows.{ProbeRows}
 use Rattle.book_writer.proofs.Recorded.{addition_whole, probe_draft_whole}
 
 pub whole_as : (b : Book) (g : Growth) {a : Addition} → a ≡ addition_of b g → Whole a
 whole_as b g e = rw e (addition_whole b g)
 
-pub append_as : (b : Book) {a a1 : Addition} (right : Bool) {n n1 : ℕ} (room : ℕ) {r : Appended} {t t1 s s1 : List ℕ} → a ≡ a1 → n ≡ n1
+pub append_as : (b : Book) {a a1 : Addition} (right : Bool) {n n1 : ℕ} (room : ℕ) {r : Answer} {t t1 s s1 : List ℕ} → a ≡ a1 → n ≡ n1
     → Appends (append_in b a right n room) r t t1 s s1 → Appends (append_in b a1 right n1 room) r t t1 s s1
 append_as b right room e f x = rw (e, f) at x
 
@@ -42,12 +47,10 @@ unfolding rows
 one_row xs e = e ∙ sym (append-nil (row xs))
 
 -- ---- one record
-pub name_added : (b : Book) (t : Text) {r : List ℕ} {k start : ℕ} → k ≡ size b letters → start ≡ range_start k (length t) → r ≡ row (start ∷ length t ∷ [])
-    → addition (t ++ []) r [] [] [] [] ≡ addition_of b (append_name t)
-unfolding addition_of draft_of addition_from all_letters name_rows name_row rows
-name_added b t {r} {k} {start} ek es er =
-    let is : start ≡ range_start (size b letters) (length t) = rw ek at es in
-    by_parts refl (one_row (range_start (size b letters) (length t) ∷ length t ∷ []) (er ∙ ap (λ (z : ℕ). row (z ∷ length t ∷ [])) is)) refl refl refl refl
+pub name_added : (b : Book) (t : Text) {r : List ℕ} {k : ℕ} → k ≡ size b letters → r ≡ row (name_row k (length t)) → addition t r [] [] [] [] ≡ addition_of b (append_name t)
+unfolding addition_of draft_of addition_from all_letters name_rows rows
+name_added b t ek er =
+    by_parts (sym (append-nil t)) (one_row (name_row (size b letters) (length t)) (er ∙ ap (λ (z : ℕ). row (name_row z (length t))) ek)) refl refl refl refl
 
 pub constant_added : (b : Book) (n t : ℕ) {r : List ℕ} → r ≡ row (n ∷ t ∷ []) → addition [] [] r [] [] [] ≡ addition_of b (append_constant n t)
 unfolding addition_of draft_of addition_from all_letters name_rows constant_row rows
@@ -56,10 +59,6 @@ constant_added b n t e = by_parts refl refl (one_row (n ∷ t ∷ []) e) refl re
 pub node_added : (b : Book) (p t n : ℕ) {r : List ℕ} → r ≡ row (p ∷ t ∷ n ∷ []) → addition [] [] [] [] r [] ≡ addition_of b (append_node p t n)
 unfolding addition_of draft_of addition_from all_letters name_rows node_row rows
 node_added b p t n e = by_parts refl refl refl refl (one_row (p ∷ t ∷ n ∷ []) e) refl
-
-pub untraced_added : (b : Book) (p t : ℕ) {r : List ℕ} → r ≡ row (p ∷ t ∷ 0 ∷ []) → addition [] [] [] [] r [] ≡ addition_of b (extend p t none)
-unfolding addition_of draft_of extend_draft addition_from all_letters name_rows node_row rows
-untraced_added b p t e = by_parts refl refl refl refl (one_row (p ∷ t ∷ 0 ∷ []) e) refl
 
 -- ---- a term and its lists
 lists_taken : (ranges : ℕ) (xs ys : List ℕ) → take (listed_bytes (leb 1 ranges) (length xs)) xs ++ take (listed_bytes (leb 2 ranges) (length ys)) ys ≡ term_lists ranges xs ys
@@ -78,58 +77,69 @@ term_added b t xs ys {ranges} {k} {i} {j} {r} er ek w ei ej =
     by_parts refl refl refl (one_row _ is) refl all
 
 -- ---- the four
-pub traced_added : (b : Book) (p t : ℕ) (trace : Text) (k : ℕ) {N : Numbered} {P : NameParts} {r : List ℕ} → k ≡ size b letters → IsNamed b trace (new_before [] false false) N
-    → AreParts k [] false false trace N.new P → r ≡ row (p ∷ t ∷ (N.number + 1) ∷ [])
-    → addition (take P.letters_length P.letters ++ take P.text_length trace) (take P.rows_length P.rows) [] [] r [] ≡ addition_of b (extend p t (some trace))
-unfolding addition_of draft_of extend_draft addition_from node_row new_before optional rows
-traced_added b p t trace k {N} {P} {r} ek h parts e =
-    let all : optional N.new trace ≡ (named b trace []).texts = sym h.texts in
-    let number : N.number + 1 ≡ suc (named b trace []).number = add-one N.number ∙ ap suc h.number in
-    by_parts (parts.letters ∙ ap all_letters all) (parts.rows ∙ ap rows (ap (name_rows k) all ∙ ap (λ (m : ℕ). name_rows m (named b trace []).texts) ek)) refl refl
-    (one_row (p ∷ t ∷ suc (named b trace []).number ∷ []) (e ∙ ap (λ (m : ℕ). row (p ∷ t ∷ m ∷ [])) number)) refl
+-- the text that is behind the other new letters
+pub text_now : (o : code.Option (Bor Text)) (d : Bor Text) → d.now ≡ [] → (unwrap_or o d).now ≡ all_letters (new_text o)
+unfolding all_letters
+text_now None d e = e
+text_now (Some t) d e = sym (append-nil t.now)
+
+bare : (b : Book) (p t : ℕ) (trace : Option Text) → ([] ≡ rows (map constant_row (extend_draft b p t trace).constants)) × ([] ≡ rows (map term_row (extend_draft b p t trace).terms))
+    × ([] ≡ (extend_draft b p t trace).lists)
+unfolding extend_draft rows
+bare b p t none = (refl, refl, refl)
+bare b p t (some trace) = (refl, refl, refl)
+
+pub extend_added : (b : Book) (p t : ℕ) (trace : Option Text) {k : ℕ} {N : Numbered} {P : NameParts} {x n r : List ℕ} → k ≡ size b letters → IsTraced b trace N
+    → AreParts k [] (new_text N.new) P → x ≡ all_letters (new_text N.new) → n ≡ P.rows.items → r ≡ row (p ∷ t ∷ N.number ∷ []) → addition x n [] [] r [] ≡ addition_of b (extend p t trace)
+unfolding addition_of draft_of addition_from node_row
+extend_added b p t trace {k} {N} {P} ek h parts ex en er =
+    let none = bare b p t trace in
+    let texts = h.texts p t in
+    by_parts (ex ∙ ap all_letters texts) (en ∙ parts.rows ∙ ap rows (ap (name_rows k) texts ∙ ap (λ (m : ℕ). name_rows m (extend_draft b p t trace).texts) ek)) none.0 none.1
+    (one_row (p ∷ t ∷ N.number ∷ []) er ∙ ap (λ (ns : List NewNode). rows (map node_row ns)) (h.number p t)) none.2
+
+pub traced_some : (b : Book) (T : Bor Text) {N : Numbered} → IsNamed b T.now [] N → IsTraced b (maybe_text (Some T)) (record { number = N.number + 1; new = N.new })
+unfolding maybe extend_draft
+traced_some b T {N} h =
+    let e : N.number + 1 ≡ suc (named b T.now []).number = add-one N.number ∙ ap suc h.number in
+    record { number = λ p t. ap (λ (m : ℕ). new_node p t m ∷ []) e; texts = λ p t. sym h.texts }
+
+pub traced_none : (b : Book) → IsTraced b (maybe_text None) (record { number = 0; new = None })
+unfolding maybe extend_draft
+traced_none b = record { number = λ p t. refl; texts = λ p t. refl }
 
 two_terms : (b : Book) (v k n m : ℕ) {r : List ℕ} → n ≡ m → k ≡ size b lists → r ≡ rows (map term_row (identifier v ∷ equality n k ∷ []))
     → r ≡ rows (map term_row (equality_terms b v m))
 unfolding equality_terms
 two_terms b v k n m en ek e = rw (← en, ← ek) e
 
-nothing : (n : ℕ) → take {A = ℕ} n [] ≡ []
-nothing zero = refl
-nothing (suc n) = refl
-
-equals_only : (new : Bool) → new_before [] false new ++ [] ≡ [] ++ optional new equals
-unfolding new_before optional
-equals_only true = refl
-equals_only false = refl
-
-pub equated_added : (b : Book) (p v t k l m : ℕ) {N : Numbered} {P : NameParts} {terms' node entries x : List ℕ} → k ≡ size b letters → l ≡ size b lists → m ≡ size b terms
-    → x ≡ equals → IsNamed b x (new_before [] false false) N → AreParts k [] false N.new [] false P
+pub equated_added : (b : Book) (p v t k l m : ℕ) {N : Numbered} {P : NameParts} {terms' node entries x ls n : List ℕ} → k ≡ size b letters → l ≡ size b lists → m ≡ size b terms
+    → x ≡ equals → IsNamed b x [] N → AreParts k (new_text N.new) [] P → ls ≡ P.letters.items → n ≡ P.rows.items
     → terms' ≡ rows (map term_row (identifier v ∷ equality N.number l ∷ [])) → node ≡ row (p ∷ (m + 1) ∷ 0 ∷ []) → entries ≡ row (m ∷ t ∷ [])
-    → addition (take P.letters_length P.letters ++ []) (take P.rows_length P.rows) [] terms' node (entries ++ []) ≡ addition_of b (extend_with_equality p v t)
-unfolding addition_of draft_of equality_draft addition_from node_row new_before optional rows
-equated_added b p v t k l m {N} {P} {terms'} {node} {entries} {x} ek el em ex hx parts et en ee =
+    → addition (ls ++ []) n [] terms' node (entries ++ []) ≡ addition_of b (extend_with_equality p v t)
+unfolding addition_of draft_of equality_draft addition_from node_row rows
+equated_added b p v t k l m {N} {P} {terms'} {node} {entries} {x} {ls} ek el em ex hx parts ll nn et en ee =
     let h : IsNamed b equals [] N = rw ex at hx in
-    let all : new_before [] false N.new ++ [] ≡ (named b equals []).texts = equals_only N.new ∙ sym h.texts in
-    let none : take P.text_length [] ≡ [] = nothing P.text_length in
-    by_parts (ap (λ (z : List ℕ). take P.letters_length P.letters ++ z) (sym none) ∙ parts.letters ∙ ap all_letters all)
-    (parts.rows ∙ ap rows (ap (name_rows k) all ∙ ap (λ (z : ℕ). name_rows z (named b equals []).texts) ek)) refl
+    let all : new_text N.new ≡ (named b equals []).texts = sym h.texts in
+    let most : new_text N.new ++ [] ≡ (named b equals []).texts = append-nil (new_text N.new) ∙ all in
+    by_parts (append-nil ls ∙ ll ∙ parts.letters ∙ ap all_letters all)
+    (nn ∙ parts.rows ∙ ap rows (ap (name_rows k) most ∙ ap (λ (z : ℕ). name_rows z (named b equals []).texts) ek)) refl
     (two_terms b v l N.number (named b equals []).number h.number el et)
     (one_row (p ∷ suc (size b terms) ∷ 0 ∷ []) (en ∙ ap (λ (z : ℕ). row (p ∷ z ∷ 0 ∷ [])) (add-one m ∙ ap suc em)))
     (append-nil entries ∙ ee ∙ ap (λ (z : ℕ). row (z ∷ t ∷ [])) em)
 
 -- Record and RecordTracePoint, with the probe's name
-pub probe_added : (b : Book) (probe : Text) (p typ k : ℕ) (t : Option ℕ) (trace : Option Text) (text : Text) {N : ProbeNames} {P : NameParts} {R : ProbeRows} → k ≡ size b letters
-    → AreNamed b probe trace text N → AreParts k probe N.probe_new N.equals_new text N.trace_new P
-    → AreRows b N.probe N.equals N.trace p typ t R
-    → addition (take P.letters_length P.letters ++ take P.text_length text) (take P.rows_length P.rows) R.constant (take R.terms_length R.terms) R.node (R.entries ++ [])
-    ≡ addition_from b (probe_draft_by b probe p t typ trace)
+pub probe_added : (b : Book) (probe : Text) (p typ k : ℕ) (t : Option ℕ) (trace : Option Text) {N : ProbeNames} {P : NameParts} {R : ProbeRows} {x ls n ts : List ℕ} → k ≡ size b letters
+    → AreNamed b probe trace N → AreParts k (new_text N.probe.new ++ new_text N.equals.new) (new_text N.trace.new) P → x ≡ all_letters (new_text N.trace.new)
+    → AreRows b N p typ t R → ls ≡ P.letters.items → n ≡ P.rows.items → ts ≡ R.terms.items → addition (ls ++ x) n R.constant ts R.node (R.entries ++ []) ≡ addition_from b (probe_draft_by b probe p t typ trace)
 unfolding addition_from probe_draft_by
-probe_added b probe p typ k t trace text {N} {P} {R} ek h parts rs =
+probe_added b probe p typ k t trace {N} {P} {R} {x} ek h parts ex rs ll nn tt' =
+    let before = new_text N.probe.new ++ new_text N.equals.new in
     let all = sym h.texts in
-    by_parts (parts.letters ∙ ap all_letters all)
-    (parts.rows ∙ ap rows (ap (name_rows k) all ∙ ap (λ (z : ℕ). name_rows z (trace_named b probe trace).texts) ek))
+    by_parts (ap (λ (l : List ℕ). l ++ x) (ll ∙ parts.letters) ∙ ap (λ (l : List ℕ). all_letters before ++ l) ex ∙ sym (letters_append before (new_text N.trace.new)) ∙ ap all_letters all)
+    (nn ∙ parts.rows ∙ ap rows (ap (name_rows k) all ∙ ap (λ (z : ℕ). name_rows z (trace_named b probe trace).texts) ek))
     (rs.constant ∙ ap (λ (z : ℕ). rows (map constant_row (new_constant z typ ∷ []))) h.probe)
-    (rs.terms ∙ ap (λ (z : ℕ). rows (map term_row (probe_terms b z t))) h.equals)
+    (tt' ∙ rs.terms ∙ ap (λ (z : ℕ). rows (map term_row (probe_terms b z t))) h.equals)
     (rs.node ∙ ap (λ (z : ℕ). rows (map node_row (new_node p (probe_equality b t) (suc z) ∷ []))) h.trace)
     (append-nil R.entries ∙ rs.entries)
 
@@ -137,10 +147,6 @@ pub probe_whole : (b : Book) (probe : Text) (p typ : ℕ) (t : Option ℕ) (trac
 probe_whole b probe p typ t trace e = rw e (probe_draft_whole b probe p t typ trace)
 
 -- what was handed over, as the code decided it
-pub right_as : (b : Book) (a : Addition) (t : NewTerm) (xs ys : List ℕ) (n room : ℕ) {ranges : ℕ} {right : Bool} {r : Appended} {o o1 s s1 : List ℕ} → ranges ≡ ranges_of t.kind → right ≡ term_right ranges t xs ys
+pub right_as : (b : Book) (a : Addition) (t : NewTerm) (xs ys : List ℕ) (n room : ℕ) {ranges : ℕ} {right : Bool} {r : Answer} {o o1 s s1 : List ℕ} → ranges ≡ ranges_of t.kind → right ≡ term_right ranges t xs ys
     → Appends (append_in b a right n room) r o o1 s s1 → Appends (append_in b a (term_right (ranges_of t.kind) t xs ys) n room) r o o1 s s1
 right_as b a t xs ys n room er e x = rw (e, er) at x
-
-pub low_bare : {b : Book} {t : Text} {N : Numbered} → IsNamed b t (new_before [] false false) N → N.number ≤ size b names
-unfolding new_before optional
-low_bare h = omega (arith, h.low)

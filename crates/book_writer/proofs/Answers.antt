@@ -1,4 +1,5 @@
 -- The answer of a call of the writer: a refusal, or the new book.
+use Rattle.std.specs.Prelude.{Ok, Err}
 use Prim.Native.Nat.{ℕ, ◌≤◌, ◌<◌}
 use native.Mathlib.Omega.{arith}
 use mathlib.Core.Path.{◌≡◌, refl, sym, ap, ◌∙◌}
@@ -22,25 +23,23 @@ use Rattle.book_test.specs.declared.Tested.TheVariants.{Good, Refused}
 use Rattle.book_test.proofs.Answers.{ready_long}
 use Rattle.book_layout.specs.Layout.{book_most}
 use Rattle.book_growth.specs.Growth.{Addition, grown, grows_within}
-use Rattle.book_writer.specs.Writing.{Grown, numbers, book_of, appended_value}
-use Rattle.book_writer.specs.Coded.{Spare, fitted, deliver, append_in, Copied, Appends}
-use Rattle.book_writer.specs.declared.Appended.{Appended}
-use Rattle.book_writer.specs.declared.Appended.TheVariants as answer
+use Rattle.book_writer.specs.Writing.{Grown, Answer, numbers, book_of, appended_value}
+use Rattle.book_writer.specs.Coded.{Spare, Tried, tried_value, fitted, deliver, append_in, Copied, Appends}
 
-copied_refused : {o : Outcome Grown} (why : Refusal) (t : List ℕ) → o ≡ refused (number why) → Copied o (answer.Refused why) t t
+copied_refused : {o : Outcome Grown} (why : Refusal) (t : List ℕ) → o ≡ refused (number why) → Copied o (Err why) t t
 unfolding appended_value map_outcome buffer_after
 copied_refused why t e = record { answer = rw e; buffer = rw e }
 
-pub refused_with : {o : Outcome Grown} (why : Refusal) (t s : List ℕ) → o ≡ refused (number why) → Appends o (answer.Refused why) t t s s
+pub refused_with : {o : Outcome Grown} (why : Refusal) (t s : List ℕ) → o ≡ refused (number why) → Appends o (Err why) t t s s
 refused_with why t s e = record { copied = copied_refused why t e; scratch = refl }
 
 -- ---- a new book that passed its test: it fits, or not
-pub copied_short : (c : Book) (n : ℕ) {t : List ℕ} → length t < length c → Copied (fitted c n (length t)) (answer.Refused BufferTooShort) t t
+pub copied_short : (c : Book) (n : ℕ) {t : List ℕ} → length t < length c → Copied (fitted c n (length t)) (Err BufferTooShort) t t
 copied_short c n {t} h =
     let short : fitted c n (length t) ≡ refused (number BufferTooShort) = unfold fitted refuse ◌>>◌ number in rw (lt-ltb (length t) (length c) h) in
     copied_refused BufferTooShort t short
 
-pub copied_whole : (c : Book) (n : ℕ) {t t' : List ℕ} {k : ℕ} → length c ≤ length t → Wrote c t t' k → Copied (fitted c n (length t)) (answer.Record n (length c)) t t'
+pub copied_whole : (c : Book) (n : ℕ) {t t' : List ℕ} {k : ℕ} → length c ≤ length t → Wrote c t t' k → Copied (fitted c n (length t)) (Ok (record { number = n; length = length c })) t t'
 unfolding appended_value map_outcome buffer_after numbers book_of
 copied_whole c n {t} h w =
     let fits : fitted c n (length t) ≡ accepted (record { number = n; book = c }) = unfold fitted refuse ◌>>◌ in rw (le-ltb (length t) (length c) h) in
@@ -50,43 +49,46 @@ deliver_stops : (c : Book) (n room : ℕ) {k : ℕ} → book_test c ≡ refused 
 unfolding deliver ◌>>◌
 deliver_stops c n room e = rw e
 
-pub refused_as : {d : Tested} {why : Refusal} → d ≡ Refused why → tested_value d ≡ refused (number why)
-unfolding tested_value
-refused_as e = rw e
+-- ---- the test of a book
+module _ (b : Book) (s : List ℕ) {d : Tested} {s1 : List ℕ} (tested : (tested_value d ≡ (book_test_call b s).answer) × (s1 ≡ (book_test_call b s).scratch)) where
+  pub tried_refused : {why : Refusal} → d ≡ Refused why → Tried b s (Err why) s1
+  unfolding tested_value tried_value
+  tried_refused e = record { answer = (rw e at tested.0); scratch = tested.1 }
 
--- ---- the test of the new book, with the scratch that the first test left
-module _ (c : Book) (s : List ℕ) (S : Spare s) (d : Tested) {s1 : List ℕ} (tested : (tested_value d ≡ (book_test_call c s).answer) × (s1 ≡ (book_test_call c s).scratch)) where
-  tested_as : tested_value d ≡ book_test c
+  pub tried_good : d ≡ Good → Tried b s (Ok tt) s1
+  unfolding tested_value tried_value
+  tried_good e = record { answer = (rw e at tested.0); scratch = tested.1 }
+
+-- ---- of the new book, with the scratch that the first test left
+module _ (c : Book) (s : List ℕ) (S : Spare s) {s1 : List ℕ} where
+  clean_again : s1 ≡ (book_test_call c s).scratch → s1 ≡ s
   unfolding book_test_call
-  tested_as = tested.0 ∙ sym (ready_long c (length s) S.long)
+  clean_again e = e ∙ S.clean
 
-  clean_again : s1 ≡ s
-  unfolding book_test_call
-  clean_again = tested.1 ∙ S.clean
+  pub test_refused : {why : Refusal} {r : Answer} (n : ℕ) (t : List ℕ) → Tried c s (Err why) s1 → r ≡ Err why → Appends (deliver c n (length t)) r t t s s1
+  unfolding book_test_call tried_value
+  test_refused {why} n t T e =
+      rw (e, clean_again T.scratch) (refused_with why t s (deliver_stops c n (length t) (sym (T.answer ∙ sym (ready_long c (length s) S.long)))))
 
-  pub test_refused : {why : Refusal} (n room : ℕ) (t : List ℕ) → d ≡ Refused why → Appends (deliver c n room) (answer.Refused why) t t s s1
-  test_refused {why} n room t e =
-      rw clean_again (refused_with why t s (deliver_stops c n room (sym tested_as ∙ refused_as e)))
-
-  pub test_good : (n room : ℕ) {r : Appended} {t t' : List ℕ} → d ≡ Good → Copied (fitted c n room) r t t' → Appends (deliver c n room) r t t' s s1
-  unfolding deliver tested_value ◌>>◌
-  test_good n room e a =
-      let ok : book_test c ≡ accepted tt = sym tested_as ∙ ap tested_value e in
-      record { copied = rw ok a; scratch = clean_again }
+  pub test_good : (n room : ℕ) {r : Answer} {t t' : List ℕ} → Tried c s (Ok tt) s1 → Copied (fitted c n room) r t t' → Appends (deliver c n room) r t t' s s1
+  unfolding book_test_call tried_value deliver ◌>>◌
+  test_good n room T a =
+      let ok : book_test c ≡ accepted tt = sym (T.answer ∙ sym (ready_long c (length s) S.long)) in
+      record { copied = rw ok a; scratch = clean_again T.scratch }
 
 -- ---- behind refusal 7
 module _ (b : Book) (a : Addition) (right : Bool) (n : ℕ) (t s : List ℕ) where
-  pub over_limit : {w : Bool} → w ≡ grows_within b a → not w ≡ true → Appends (append_in b a right n (length t)) (answer.Refused CountOverLimit) t t s s
+  pub over_limit : {w : Bool} → w ≡ grows_within b a → not w ≡ true → Appends (append_in b a right n (length t)) (Err CountOverLimit) t t s s
   over_limit {w} e h =
       let stopped : append_in b a right n (length t) ≡ refused (number CountOverLimit) = unfold append_in refuse ◌>>◌ number in rw (← e, h) in
       refused_with CountOverLimit t s stopped
 
-  pub handed_wrong : grows_within b a ≡ true → not right ≡ true → Appends (append_in b a right n (length t)) (answer.Refused FieldOutOfRange) t t s s
+  pub handed_wrong : grows_within b a ≡ true → not right ≡ true → Appends (append_in b a right n (length t)) (Err FieldOutOfRange) t t s s
   handed_wrong e h =
       let stopped : append_in b a right n (length t) ≡ refused (number FieldOutOfRange) = unfold append_in refuse ◌>>◌ number in rw (e, h) in
       refused_with FieldOutOfRange t s stopped
 
-  pub handed-right : {r : Appended} {t' s' : List ℕ} → grows_within b a ≡ true → not right ≡ false → Appends (deliver (grown b a) n (length t)) r t t' s s' → Appends (append_in b a right n (length t)) r t t' s s'
+  pub handed-right : {r : Answer} {t' s' : List ℕ} → grows_within b a ≡ true → not right ≡ false → Appends (deliver (grown b a) n (length t)) r t t' s s' → Appends (append_in b a right n (length t)) r t t' s s'
   unfolding append_in refuse ◌>>◌
   handed-right e h x = rw (e, h) x
 
@@ -105,5 +107,5 @@ module _ {c o o' : List ℕ} {r : ℕ} (w : WroteAt c 0 o o' r) (few : length c 
   unfolding overlay_at
   laid_whole = rw (laid_length, w.shown) (take_overlay c o (omega arith))
 
-pub laid_as : {c d : Book} (n room : ℕ) {r : Appended} {t t' s s' : List ℕ} → d ≡ c → Appends (deliver d n room) r t t' s s' → Appends (deliver c n room) r t t' s s'
+pub laid_as : {c d : Book} (n room : ℕ) {r : Answer} {t t' s s' : List ℕ} → d ≡ c → Appends (deliver d n room) r t t' s s' → Appends (deliver c n room) r t t' s s'
 laid_as n room e a = rw e at a

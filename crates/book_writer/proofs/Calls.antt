@@ -1,32 +1,28 @@
 -- A call of the writer that tests its book first: refused as the test says, or answered by what stands behind the test.
+use Rattle.std.specs.Prelude.{Result, Ok, Err}
 use Prim.Native.Nat.{ℕ, ◌≤◌, ◌<◌}
 use native.Mathlib.Omega.{arith}
 use mathlib.Core.Path.{◌≡◌, refl, sym, ap, ◌∙◌}
 use mathlib.Core.Bool.{Bool, true, false, not}
-use mathlib.Core.Option.{none, some}
 use mathlib.Core.List.{List}
-use lib.Dec.{leb}
+use lib.Dec.{ltb, leb}
 use lib.ListN.{length, replicate, length-replicate}
-use borrow.Author.Tests.{lt-ltb, le-ltb, not-true, not-false}
-use Rattle.basics.specs.Text.{Text, given}
+use borrow.Author.Tests.{lt-ltb, le-ltb, lt-leb, le-leb}
 use Rattle.basics.specs.Outcome.{refused, accepted, refuse, ◌>>◌, map_outcome}
 use Rattle.basics.specs.Buffer.{scratch_least, scratch_after, buffer_after}
 use Rattle.book.specs.Refusal.{number}
 use Rattle.book.specs.declared.Refusal.{Refusal}
 use Rattle.book.specs.declared.Refusal.TheVariants.{NotInBook}
+use Rattle.std.proofs.Math.Bool.{or-true}
 use Rattle.book.specs.Book.{Book, terms, contexts, size}
-use Rattle.book_test.specs.BookTest.{ready, tested_value, book_test_call}
-use Rattle.book_test.specs.declared.Tested.{Tested}
-use Rattle.book_test.specs.declared.Tested.TheVariants.{Good, Refused}
+use Rattle.book_test.specs.BookTest.{ready, book_test_call}
 use Rattle.book_test.proofs.Outcomes.{ready_passed}
 use Rattle.book_test.proofs.Answers.{zeroed}
 use Rattle.book_test.proofs.Promise.{promise}
-use Rattle.book_writer.specs.Growths.{Growth, extend, outside_at, outside}
-use Rattle.book_writer.specs.Writing.{grow, lent, grown_left, outcome_of, grow_call, appended_value, Returned}
-use Rattle.book_writer.specs.Coded.{Spare, Ready, fitted, deliver, append_in, grow_below, grow_in, Appends}
-use Rattle.book_writer.specs.declared.Appended.{Appended}
-use Rattle.book_writer.specs.declared.Appended.TheVariants as answer
-use Rattle.book_writer.proofs.Answers.{refused_with, refused_as}
+use Rattle.book_writer.specs.Growths.{Growth, outside_at, outside}
+use Rattle.book_writer.specs.Writing.{Answer, grow, lent, grown_left, outcome_of, grow_call, appended_value, Returned}
+use Rattle.book_writer.specs.Coded.{Spare, Ready, Tried, tried_value, Inside, fitted, deliver, append_in, grow_below, grow_in, Appends}
+use Rattle.book_writer.proofs.Answers.{refused_with}
 
 -- ---- the scratch that a test leaves
 spare : (s : List ℕ) → scratch_least ≤ length s → Spare (scratch_after s)
@@ -39,61 +35,59 @@ by_steps : (scratch : ℕ) (b : Book) (g : Growth) (room : ℕ) → grow scratch
 unfolding grow grow_in grow_below append_in deliver fitted
 by_steps scratch b g room = refl
 
-module _ (b : Book) (s : List ℕ) (d : Tested) {s1 : List ℕ} (tested : (tested_value d ≡ (book_test_call b s).answer) × (s1 ≡ (book_test_call b s).scratch)) where
-  answered : tested_value d ≡ ready (length s) b
-  unfolding book_test_call
-  answered = tested.0
-
-  scratch_left : s1 ≡ scratch_after s
-  unfolding book_test_call
-  scratch_left = tested.1
-
-  passed : d ≡ Good → ready (length s) b ≡ accepted tt
-  unfolding tested_value
-  passed e = sym answered ∙ ap tested_value e
-
-  pub ready_for : d ≡ Good → Ready b s1
-  ready_for e =
-      let r = ready_passed (length s) b (passed e) in
-      record { tested = r.1; promise = promise b r.1; spare = rw scratch_left (spare s r.0) }
-
-  pub call_refused : (g : Growth) (t : List ℕ) {why : Refusal} → d ≡ Refused why → Returned (grow_call b (lent g s t)) (answer.Refused why) t s1
-  unfolding grow_call grown_left outcome_of appended_value map_outcome buffer_after ◌>>◌
-  call_refused g t {why} e =
-      let stopped : ready (length s) b ≡ refused (number why) = sym answered ∙ refused_as e in
-      rw (by_steps (length s) b g (length t), stopped) (record { answer = refl; buffer' = refl; scratch'' = scratch_left })
-
-  pub call_good : (g : Growth) (t : List ℕ) {r : Appended} {t1 s2 : List ℕ} → d ≡ Good → Appends (grow_in b g (length t)) r t t1 s1 s2 → Returned (grow_call b (lent g s t)) r t1 s2
-  unfolding grow_call grown_left outcome_of ◌>>◌
-  call_good g t e a = rw (by_steps (length s) b g (length t), passed e) (record { answer = a.copied.answer; buffer' = a.copied.buffer; scratch'' = a.scratch ∙ scratch_left })
-
 -- ---- refusal 7
-module _ (b : Book) (g : Growth) where
-  pub not_in_book : (t s : List ℕ) → outside b g ≡ true → Appends (grow_in b g (length t)) (answer.Refused NotInBook) t t s s
-  not_in_book t s e = refused_with NotInBook t s (stops e)
-    where
-      stops : outside b g ≡ true → grow_in b g (length t) ≡ refused (number NotInBook)
-      stops h = unfold grow_in refuse ◌>>◌ number in rw h
+stops : (b : Book) (g : Growth) (room : ℕ) → outside b g ≡ true → grow_in b g room ≡ refused (number NotInBook)
+unfolding grow_in refuse ◌>>◌ number
+stops b g room h = rw h
 
-  pub in_book : (room : ℕ) {r : Appended} {t t1 s s1 : List ℕ} → outside b g ≡ false → Appends (grow_below b g room) r t t1 s s1 → Appends (grow_in b g room) r t t1 s s1
-  unfolding grow_in refuse ◌>>◌
-  in_book room e a = rw e a
+module _ (b : Book) (s : List ℕ) {s1 : List ℕ} where
+  scratch_left : {r : Result (Unit {0}) Refusal} → Tried b s r s1 → s1 ≡ scratch_after s
+  unfolding book_test_call
+  scratch_left T = T.scratch
 
-module _ (b : Book) {k : ℕ} (p t : ℕ) (many : k ≡ size b contexts) where
-  pub parent_outside : k < p → true ≡ outside_at b p t
+  passed : Tried b s (Ok tt) s1 → ready (length s) b ≡ accepted tt
+  unfolding book_test_call tried_value
+  passed T = sym T.answer
+
+  pub ready_for : Tried b s (Ok tt) s1 → Ready b s1
+  ready_for T =
+      let r = ready_passed (length s) b (passed T) in
+      record { tested = r.1; promise = promise b r.1; spare = rw (scratch_left T) (spare s r.0) }
+
+  pub call_refused : (g : Growth) (t : List ℕ) {why : Refusal} {r : Answer} → Tried b s (Err why) s1 → r ≡ Err why → Returned (grow_call b (lent g s t)) r t s1
+  unfolding book_test_call tried_value grow_call grown_left outcome_of appended_value map_outcome buffer_after ◌>>◌
+  call_refused g t {why} T e =
+      let stopped : ready (length s) b ≡ refused (number why) = sym T.answer in
+      rw (e, by_steps (length s) b g (length t), stopped) (record { answer = refl; buffer' = refl; scratch'' = scratch_left T })
+
+  call_in : (g : Growth) (t : List ℕ) {r : Answer} {t1 s2 : List ℕ} → Tried b s (Ok tt) s1 → Appends (grow_in b g (length t)) r t t1 s1 s2 → Returned (grow_call b (lent g s t)) r t1 s2
+  unfolding grow_call grown_left outcome_of ◌>>◌
+  call_in g t T a = rw (by_steps (length s) b g (length t), passed T) (record { answer = a.copied.answer; buffer' = a.copied.buffer; scratch'' = a.scratch ∙ scratch_left T })
+
+  pub call_outside : (g : Growth) (t : List ℕ) {r : Answer} → Tried b s (Ok tt) s1 → outside b g ≡ true → r ≡ Err NotInBook → Returned (grow_call b (lent g s t)) r t s1
+  call_outside g t T h e = call_in g t T (rw e (refused_with NotInBook t s1 (stops b g (length t) h)))
+
+  pub call_good : (g : Growth) (t : List ℕ) {r : Answer} {t1 s2 : List ℕ} → Tried b s (Ok tt) s1 → outside b g ≡ false → Appends (grow_below b g (length t)) r t t1 s1 s2
+      → Returned (grow_call b (lent g s t)) r t1 s2
+  call_good g t {r} {t1} {s2} T h a = call_in g t T (unfold grow_in refuse ◌>>◌ in rw h a)
+
+pub is_outside : {why : Refusal} (x : Bool) → Inside x (Err why) → (x ≡ true) × (why ≡ NotInBook)
+is_outside true i = let e = i.is in (refl, cc)
+is_outside false i = let e = i.is in absurd (cc)
+
+pub is_inside : (x : Bool) → Inside x (Ok tt) → x ≡ false
+is_inside true i = let e = i.is in absurd (cc)
+is_inside false i = refl
+
+module _ (b : Book) (p t : ℕ) where
+  pub told_parent : {k : ℕ} → k ≡ size b contexts → k < p → Inside (outside_at b p t) (Err NotInBook)
   unfolding outside_at
-  parent_outside h = rw (lt-ltb (size b contexts) p (omega arith))
+  told_parent many h = record { is = rw (lt-ltb (size b contexts) p (omega arith)) }
 
-  pub term_decides : {m : ℕ} → p ≤ k → m ≡ size b terms → leb m t ≡ outside_at b p t
+  pub told_term : {m : ℕ} → m ≡ size b terms → m ≤ t → Inside (outside_at b p t) (Err NotInBook)
   unfolding outside_at
-  term_decides h e = rw (le-ltb (size b contexts) p (omega arith), e)
+  told_term many h = record { is = rw (le-leb (size b terms) t (omega arith), or-true (ltb (size b contexts) p)) }
 
--- ---- a trace under its flag
-module _ (b : Book) (p t : ℕ) (trace : Text) (room : ℕ) (flag : Bool) {r : Appended} {o o1 s s1 : List ℕ} where
-  pub untraced : not flag ≡ true → Appends (grow_below b (extend p t none) room) r o o1 s s1 → Appends (grow_below b (extend p t (given flag trace)) room) r o o1 s s1
-  unfolding given
-  untraced h a = rw (not-true flag h) a
-
-  pub traced : not flag ≡ false → Appends (grow_below b (extend p t (some trace)) room) r o o1 s s1 → Appends (grow_below b (extend p t (given flag trace)) room) r o o1 s s1
-  unfolding given
-  traced h a = rw (not-false flag h) a
+  pub told_inside : {k m : ℕ} → k ≡ size b contexts → m ≡ size b terms → p ≤ k → t < m → Inside (outside_at b p t) (Ok tt)
+  unfolding outside_at
+  told_inside many more h l = record { is = rw (le-ltb (size b contexts) p (omega arith), lt-leb (size b terms) t (omega arith)) }

@@ -1,4 +1,5 @@
 -- The small decisions of append_term and of the rows of a probe, as the code takes them.
+use Rattle.std.specs.Prelude.{Some, None}
 use Prim.Native.Nat.{ℕ, zero, suc, ◌+◌, ◌*◌, ◌/◌, ◌≤◌, ◌<◌}
 use native.Mathlib.Omega.{arith}
 use native.Mathlib.Numerals.{add-one}
@@ -7,16 +8,17 @@ use mathlib.Core.Option.{Option, none, some}
 use mathlib.Core.Bool.{Bool, true, false, not}
 use mathlib.Core.List.{List, [], ◌∷◌, ◌++◌, map, append-nil}
 use lib.Dec.{eqb, leb}
-use lib.ListN.{length}
+use lib.ListN.{length, take}
 use borrow.Author.Tests.{eq-eqb, ne_eqb, not-true, not-false}
 use Rattle.basics.specs.Bytes.{bytes4, row, rows}
 use Rattle.basics.specs.Write.{MOST, WroteAt}
 use Rattle.basics.proofs.Places.{at_then, at_as, at_none, at_taken, at_length}
 use Rattle.book.specs.Book.{Book, constants, terms, lists, size}
+use Rattle.name_search.specs.Names.{maybe}
+use Rattle.new_records.specs.declared.naming.ProbeNames.{ProbeNames}
 use Rattle.new_records.specs.Drafts.{NewTerm, true_term, identifier, equality, range_start, constant_row, term_row, node_row}
 use Rattle.book_writer.specs.Growths.{ranges_of, filled, entry_count, is_whole, range_right, term_right, equality_terms, probe_terms, probe_lists, probe_equality}
-use Rattle.book_writer.specs.Coded.{IsTermRow, listed_bytes, term_of, true_if, AreTerms, AreRows}
-use Rattle.book_writer.specs.declared.probe_rows.PointTerms.{PointTerms}
+use Rattle.book_writer.specs.Coded.{IsTermRow, IsEquality, listed_bytes, true_if, AreRows}
 use Rattle.book_writer.specs.declared.probe_rows.ProbeRows.{ProbeRows}
 
 -- ---- kinds and lists
@@ -88,76 +90,63 @@ module _ (behind : ℕ) (t : NewTerm) (first second : ℕ) {r : List ℕ} where
   row_two (suc (suc ranges)) n o s u e = record { is = λ xs ys a b. unfold filled term_row in rw (a, b, ← s, ← u) e }
 
 -- ---- the rows of a probe
-pub true_none : (point : Bool) (o : List ℕ) → not point ≡ true → WroteAt (true_if point) 0 o o 0
-unfolding true_if
-true_none point o h = rw (not-true point h) (at_none 0 o (omega arith))
+pub true_none : (o : List ℕ) (t : ℕ) → WroteAt (true_if (maybe (Some t))) 0 o o 0
+unfolding true_if maybe
+true_none o t = at_none 0 o (omega arith)
 
-pub true_some : (point : Bool) {x o o1 : List ℕ} {r : ℕ} → not point ≡ false → x ≡ row (0 ∷ 1 ∷ 0 ∷ 0 ∷ 0 ∷ 0 ∷ 0 ∷ []) → WroteAt x 0 o o1 r → WroteAt (true_if point) 0 o o1 r
-unfolding true_if term_row true_term
-true_some point h e w = rw (not-false point h) (rw e at w)
+pub true_some : {x o o1 : List ℕ} {r : ℕ} → x ≡ row (0 ∷ 1 ∷ 0 ∷ 0 ∷ 0 ∷ 0 ∷ 0 ∷ []) → WroteAt x 0 o o1 r → WroteAt (true_if (maybe None)) 0 o o1 r
+unfolding true_if maybe term_row true_term
+true_some e w = rw e at w
 
-pub entries_point : (b : Book) (point : Bool) (t : ℕ) {m : ℕ} {r : List ℕ} → m ≡ size b terms → point ≡ true → r ≡ row ((m + 1) ∷ m ∷ []) → r ≡ probe_lists b (term_of point t)
-unfolding probe_lists term_of
-entries_point b point t {m} em h e = rw (h, ← em) (e ∙ ap (λ (z : ℕ). row (z ∷ m ∷ [])) (add-one m))
+pub entries_point : (b : Book) {m : ℕ} {r : List ℕ} → m ≡ size b terms → r ≡ row ((m + 1) ∷ m ∷ []) → r ≡ probe_lists b (maybe None)
+unfolding probe_lists maybe
+entries_point b {m} em e = rw (← em) (e ∙ ap (λ (z : ℕ). row (z ∷ m ∷ [])) (add-one m))
 
-pub entries_term : (b : Book) (point : Bool) (t : ℕ) {m : ℕ} {r : List ℕ} → m ≡ size b terms → point ≡ false → r ≡ row (m ∷ t ∷ []) → r ≡ probe_lists b (term_of point t)
-unfolding probe_lists term_of
-entries_term b point t em h e = rw (h, ← em) e
+pub entries_term : (b : Book) (t : ℕ) {m : ℕ} {r : List ℕ} → m ≡ size b terms → r ≡ row (m ∷ t ∷ []) → r ≡ probe_lists b (maybe (Some t))
+unfolding probe_lists maybe
+entries_term b t em e = rw (← em) e
 
-pub equality_point : (b : Book) (point : Bool) (t : ℕ) {m : ℕ} → m ≡ size b terms → point ≡ true → m + 2 ≡ probe_equality b (term_of point t)
-unfolding probe_equality term_of
-equality_point b point t em h = rw h (omega arith)
+pub equality_point : (b : Book) {m : ℕ} → m ≡ size b terms → m ≤ 1024 → IsEquality b (maybe None) (m + 2)
+unfolding probe_equality maybe
+equality_point b em l = record { is = omega arith; low = omega arith }
 
-pub equality_term : (b : Book) (point : Bool) (t : ℕ) {m : ℕ} → m ≡ size b terms → point ≡ false → m + 1 ≡ probe_equality b (term_of point t)
-unfolding probe_equality term_of
-equality_term b point t em h = rw h (omega arith)
+pub equality_term : (b : Book) (t : ℕ) {m : ℕ} → m ≡ size b terms → m ≤ 1024 → IsEquality b (maybe (Some t)) (m + 1)
+unfolding probe_equality maybe
+equality_term b t em l = record { is = omega arith; low = omega arith }
 
 -- the terms in two parts
-terms_are : (b : Book) (point : Bool) (operator t : ℕ) → true_if point ++ rows (map term_row (equality_terms b (size b constants) operator)) ≡ rows (map term_row (probe_terms b operator (term_of point t)))
-unfolding true_if probe_terms term_of rows
-terms_are b true operator t = refl
-terms_are b false operator t = refl
+terms_are : (b : Book) (o : Option ℕ) (operator : ℕ) → true_if o ++ rows (map term_row (equality_terms b (size b constants) operator)) ≡ rows (map term_row (probe_terms b operator o))
+unfolding true_if probe_terms rows
+terms_are b none operator = refl
+terms_are b (some t) operator = refl
 
-terms-length : (b : Book) (point : Bool) (operator t : ℕ) → length (rows (map term_row (probe_terms b operator (term_of point t)))) ≤ 84
-unfolding probe_terms equality_terms term_of rows row term_row bytes4 true_term identifier equality
-terms-length b true operator t = omega arith
-terms-length b false operator t = omega arith
+terms-length : (b : Book) (o : Option ℕ) (operator : ℕ) → length (rows (map term_row (probe_terms b operator o))) ≤ 84
+unfolding probe_terms equality_terms rows row term_row bytes4 true_term identifier equality
+terms-length b none operator = omega arith
+terms-length b (some t) operator = omega arith
 
-pub terms_done : (b : Book) (point : Bool) (operator t : ℕ) {c l r1 r : ℕ} {x o o1 o2 : List ℕ} → c ≡ size b constants → l ≡ size b lists
-    → x ≡ rows (map term_row (identifier c ∷ equality operator l ∷ [])) → length o ≡ 84 → WroteAt (true_if point) 0 o o1 r1 → WroteAt x r1 o1 o2 r
-    → AreTerms (rows (map term_row (probe_terms b operator (term_of point t)))) (record { bytes = o2; length = r })
-terms_done b point operator t {c} {l} {r1} {r} {x} {o} ec el ex long w1 w2 =
-    let all = rows (map term_row (probe_terms b operator (term_of point t))) in
+pub terms_done : (b : Book) (t : Option ℕ) (operator : ℕ) {c l r1 r : ℕ} {x o o1 o2 : List ℕ} → c ≡ size b constants → l ≡ size b lists
+    → x ≡ rows (map term_row (identifier c ∷ equality operator l ∷ [])) → length o ≡ 84 → WroteAt (true_if t) 0 o o1 r1 → WroteAt x r1 o1 o2 r
+    → take r o2 ≡ rows (map term_row (probe_terms b operator t))
+terms_done b t operator {c} {l} {r1} {r} {x} {o} ec el ex long w1 w2 =
+    let all = rows (map term_row (probe_terms b operator t)) in
     let is : x ≡ rows (map term_row (equality_terms b (size b constants) operator)) = unfold equality_terms in rw (← ec, ← el) ex in
     let short : length o < MOST + 1 = omega arith in
-    let w : WroteAt all 0 o _ r = at_as (terms_are b point operator t) (at_then short w1 (at_as is w2)) in
-    let few = terms-length b point operator t in
-    let n : r ≡ length all = omega (arith, w.counted) in
-    record { are = at_taken w (omega arith) n; fit = omega (arith, at_length w) }
+    let w : WroteAt all 0 o _ r = at_as (terms_are b t operator) (at_then short w1 (at_as is w2)) in
+    let few = terms-length b t operator in
+    at_taken w (omega arith) (omega (arith, w.counted))
 
-pub rows_done : (b : Book) (probe operator trace parent typ : ℕ) (t : Option ℕ) {x node entries : List ℕ} {q : ℕ} {T : PointTerms} → x ≡ row (probe ∷ typ ∷ [])
-    → AreTerms (rows (map term_row (probe_terms b operator t))) T → q ≡ probe_equality b t → node ≡ row (parent ∷ q ∷ (trace + 1) ∷ []) → entries ≡ probe_lists b t
-    → AreRows b probe operator trace parent typ t (record { constant = x; terms = T.bytes; terms_length = T.length; node = node; entries = entries })
-rows_done b probe operator trace parent typ t {x} {node} {entries} {q} {T} ex a eq en ee =
+pub rows_done : (b : Book) (names : ProbeNames) (parent typ : ℕ) (t : Option ℕ) {R : ProbeRows} {q : ℕ} → R.constant ≡ row (names.probe.number ∷ typ ∷ [])
+    → R.terms.items ≡ rows (map term_row (probe_terms b names.equals.number t)) → q ≡ probe_equality b t → R.node ≡ row (parent ∷ q ∷ (names.trace.number + 1) ∷ [])
+    → R.entries ≡ probe_lists b t → AreRows b names parent typ t R
+rows_done b names parent typ t {q = q} ex a eq en ee =
+    let trace = names.trace.number in
     record {
-      constant = unfold constant_row rows in (ex ∙ sym (append-nil (row (probe ∷ typ ∷ []))));
-      terms = a.are;
-      terms_fit = a.fit;
+      constant = unfold constant_row rows in (ex ∙ sym (append-nil (row (names.probe.number ∷ typ ∷ []))));
+      terms = a;
       node =
           unfold node_row rows in
           (en ∙ ap (λ (z : ℕ). row (parent ∷ z ∷ (trace + 1) ∷ [])) eq ∙ ap (λ (z : ℕ). row (parent ∷ probe_equality b t ∷ z ∷ [])) (add-one trace)
           ∙ sym (append-nil (row (parent ∷ probe_equality b t ∷ suc trace ∷ []))));
       entries = ee;
     }
-
-module _ {b : Book} {probe operator trace parent typ : ℕ} {t : Option ℕ} {R : ProbeRows} (rs : AreRows b probe operator trace parent typ t R) where
-  pub node_long : 12 ≡ length R.node
-  unfolding node_row rows row bytes4
-  node_long = sym (ap length rs.node)
-
-  pub entries_long : 8 ≡ length R.entries
-  entries_long = sym (ap length rs.entries ∙ lists_long t)
-    where
-      lists_long : (t : Option ℕ) → length (probe_lists b t) ≡ 8
-      lists_long none = unfold probe_lists row bytes4 in refl
-      lists_long (some n) = unfold probe_lists row bytes4 in refl

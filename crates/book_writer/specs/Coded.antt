@@ -1,24 +1,28 @@
 -- What the code's functions ask for and give.
-use Rattle.std.specs.Prelude.{ℕ, suc, ◌+◌, ◌*◌, ◌/◌, ◌≤◌, ◌≡◌, Bool, true, false, not, List, [], ◌∷◌, map, ltb, length, take}
+use Rattle.std.specs.Prelude.{ℕ, suc, ◌+◌, ◌*◌, ◌/◌, ◌≤◌, ◌≡◌, Bool, true, false, not, List, [], ◌∷◌, map, ltb, length, Result, Ok, Err, if◌then◌else◌}
 use Rattle.std.proofs.Math.Option.{Option, none, some}
 use Rattle.basics.specs.Bytes.{row, rows}
 use Rattle.basics.specs.Text.{Text}
-use Rattle.basics.specs.Outcome.{Outcome, accepted, refuse, ◌>>◌, map_outcome}
+use Rattle.basics.specs.Outcome.{Outcome, accepted, refused, refuse, ◌>>◌, map_outcome}
 use Rattle.basics.specs.Buffer.{scratch_least, buffer_after, scratch_after}
 use Rattle.book.specs.Book.{Book, terms, contexts, size}
 use Rattle.book.specs.Program.{depth}
 use Rattle.book.specs.Decode.{program}
 use Rattle.name_search.specs.Probe.{probe_name}
-use Rattle.book_test.specs.BookTest.{book_test}
+use Rattle.book_test.specs.BookTest.{book_test, book_test_call}
 use Rattle.book_test.specs.Promise.{Promise}
 use Rattle.book_growth.specs.Growth.{Addition, grown, grows_within}
 use Rattle.new_records.specs.Drafts.{NewTerm, new_term, true_term, new_node, new_constant, constant_row, term_row, node_row, addition_from}
-use Rattle.book_writer.specs.Growths.{Growth, entry_count, filled, addition_of, number_of, outside, handed_right, probe_terms, probe_lists, probe_equality, probe_draft_by}
-use Rattle.book_writer.specs.Writing.{Grown, numbers, book_of, appended_value}
-use Rattle.book_writer.specs.declared.Appended as code
+use Rattle.book_writer.specs.Growths.{Growth, extend_draft, entry_count, filled, addition_of, number_of, outside, handed_right, probe_terms, probe_lists, probe_equality, probe_draft_by}
+use Rattle.new_records.specs.NewNames.{new_text}
+use Rattle.book_writer.specs.Writing.{Grown, Answer, numbers, book_of, appended_value}
+use Rattle.book.specs.declared.Refusal.{Refusal}
+use Rattle.book.specs.declared.Refusal.TheVariants.{NotInBook}
+use Rattle.book.specs.Refusal.{number}
+use Rattle.new_records.specs.declared.naming.Numbered.{Numbered}
+use Rattle.new_records.specs.declared.naming.ProbeNames.{ProbeNames}
 use Rattle.book_writer.specs.declared.terms.TermFields as fields-code
 use Rattle.book_writer.specs.declared.probe_rows.ProbeRows as rows_code
-use Rattle.book_writer.specs.declared.probe_rows.PointTerms as terms-code
 
 -- a scratch as a call leaves it that was not refused with 1: long enough, and all zero
 pub record Spare (scratch : List ℕ) : Type 0 where
@@ -59,13 +63,26 @@ grow_in b g room = do
   refuse 7 (outside b g)
   grow_below b g room
 
+-- the test of a book, as a call begins with it
+unfoldable pub tried_value : Result (Unit {0}) Refusal → Outcome (Unit {0})
+tried_value (Ok x) = accepted tt
+tried_value (Err r) = refused (number r)
+
+pub record Tried (b : Book) (s : List ℕ) (r : Result (Unit {0}) Refusal) (s' : List ℕ) : Type 0 where
+  pub answer : tried_value r ≡ (book_test_call b s).answer
+  pub scratch : s' ≡ (book_test_call b s).scratch
+
+-- the answer of a test for refusal 7
+pub record Inside (outside : Bool) (r : Result (Unit {0}) Refusal) : Type 0 where
+  pub is : r ≡ (if outside then Err NotInBook else Ok tt)
+
 -- what is answered for an outcome, and left in the new book's buffer t
-pub record Copied (o : Outcome Grown) (r : code.Appended) (t t' : List ℕ) : Type 0 where
+pub record Copied (o : Outcome Grown) (r : Answer) (t t' : List ℕ) : Type 0 where
   pub answer : appended_value r ≡ map_outcome numbers o
   pub buffer : t' ≡ buffer_after o book_of t
 
 -- the same, and the scratch s is all zero again
-pub record Appends (o : Outcome Grown) (r : code.Appended) (t t' s s' : List ℕ) : Type 0 where
+pub record Appends (o : Outcome Grown) (r : Answer) (t t' s s' : List ℕ) : Type 0 where
   pub copied : Copied o r t t'
   pub scratch : s' ≡ s
 
@@ -81,11 +98,12 @@ unfoldable pub listed_bytes : (ranged : Bool) → (length : ℕ) → ℕ
 listed_bytes true length = 4 * (length / 4)
 listed_bytes false length = 0
 
--- ---- Record and RecordTracePoint; the second has no term
-unfoldable pub term_of : (point : Bool) → ℕ → Option ℕ
-term_of true t = none
-term_of false t = some t
+-- ---- a node's trace
+pub record IsTraced (b : Book) (trace : Option Text) (r : Numbered) : Type 0 where
+  pub number : (p t : ℕ) → new_node p t r.number ∷ [] ≡ (extend_draft b p t trace).nodes
+  pub texts : (p t : ℕ) → new_text r.new ≡ (extend_draft b p t trace).texts
 
+-- ---- Record and RecordTracePoint; the second has no term
 -- with the probe's name
 unfoldable pub probe_by : Book → (probe : Text) → (parent : ℕ) → Option ℕ → (typ : ℕ) → Option Text → (room : ℕ) → Outcome Grown
 probe_by b probe p t typ trace room = append_in b (addition_from b (probe_draft_by b probe p t typ trace)) true (suc (size b contexts)) room
@@ -93,21 +111,16 @@ probe_by b probe p t typ trace room = append_in b (addition_from b (probe_draft_
 unfoldable pub probe_below : Book → (parent : ℕ) → Option ℕ → (typ : ℕ) → Option Text → (room : ℕ) → Outcome Grown
 probe_below b p t typ trace room = probe_by b (probe_name (depth (program b) p)) p t typ trace room
 
-unfoldable pub true_if : (point : Bool) → List ℕ
-true_if true = row (term_row true_term)
-true_if false = []
-
-pub record AreTerms (terms : List ℕ) (r : terms-code.PointTerms) : Type 0 where
-  pub are : take r.length r.bytes ≡ terms
-  pub fit : r.length ≤ length r.bytes
+unfoldable pub true_if : Option ℕ → List ℕ
+true_if none = row (term_row true_term)
+true_if (some t) = []
 
 pub record IsEquality (b : Book) (term : Option ℕ) (r : ℕ) : Type 0 where
   pub is : r ≡ probe_equality b term
   pub low : r ≤ terms.most + 2
 
-pub record AreRows (b : Book) (probe operator trace parent typ : ℕ) (term : Option ℕ) (r : rows_code.ProbeRows) : Type 0 where
-  pub constant : r.constant ≡ rows (map constant_row (new_constant probe typ ∷ []))
-  pub terms : take r.terms_length r.terms ≡ rows (map term_row (probe_terms b operator term))
-  pub terms_fit : r.terms_length ≤ length r.terms
-  pub node : r.node ≡ rows (map node_row (new_node parent (probe_equality b term) (suc trace) ∷ []))
+pub record AreRows (b : Book) (names : ProbeNames) (parent typ : ℕ) (term : Option ℕ) (r : rows_code.ProbeRows) : Type 0 where
+  pub constant : r.constant ≡ rows (map constant_row (new_constant names.probe.number typ ∷ []))
+  pub terms : r.terms.items ≡ rows (map term_row (probe_terms b names.equals.number term))
+  pub node : r.node ≡ rows (map node_row (new_node parent (probe_equality b term) (suc names.trace.number) ∷ []))
   pub entries : r.entries ≡ probe_lists b term

@@ -1,5 +1,5 @@
 -- A call of the writer: refusals in their order, what an accepted one answers, and what the buffers hold afterwards.
-use Rattle.std.specs.Prelude.{ℕ, ◌≡◌, not, List, ltb, length, take}
+use Rattle.std.specs.Prelude.{ℕ, ◌≡◌, not, List, ltb, length, take, Result, Ok, Err}
 use Rattle.basics.specs.Outcome.{Outcome, refused, accepted, refuse, ◌>>◌, map_outcome}
 use Rattle.basics.specs.Buffer.{buffer_after, scratch_after}
 use Rattle.book.specs.Refusal.{number}
@@ -9,8 +9,8 @@ use Rattle.book_test.specs.Kept.{Kept}
 use Rattle.book_growth.specs.Growth.{grown, grows_within}
 use Rattle.book_growth.specs.Grows.{Grows}
 use Rattle.book_writer.specs.Growths.{Growth, addition_of, number_of, outside, handed_right}
-use Rattle.book_writer.specs.declared.Appended as code
-use Rattle.book_writer.specs.declared.Appended.TheVariants as answer
+use Rattle.book.specs.declared.Refusal.{Refusal}
+use Rattle.book_writer.specs.declared.Appended.{Appended}
 
 -- the new record's number, and the new book
 pub record Grown : Type 0 where
@@ -68,12 +68,15 @@ abbrev pub lent : Growth → (scratch buffer : List ℕ) → Lent
 lent g scratch buffer = record { growth = g; scratch = scratch; buffer = buffer }
 
 -- the number and values of each answer
-unfoldable pub appended_value : code.Appended → Outcome Numbers
-appended_value (answer.Record n length) = accepted (record { number = n; length = length })
-appended_value (answer.Refused r) = refused (number r)
+abbrev pub Answer : Type 0
+Answer = Result Appended Refusal
+
+unfoldable pub appended_value : Answer → Outcome Numbers
+appended_value (Ok a) = accepted (record { number = a.number; length = a.length })
+appended_value (Err r) = refused (number r)
 
 -- THE CALLS' code: answer, new book's buffer and scratch are the definition's
-pub record Returned (l : GrownLeft) (r : code.Appended) (buffer scratch : List ℕ) : Type 0 where
+pub record Returned (l : GrownLeft) (r : Answer) (buffer scratch : List ℕ) : Type 0 where
   pub answer : appended_value r ≡ l.answer
   pub buffer' : buffer ≡ l.buffer
   pub scratch'' : scratch ≡ l.scratch

@@ -8,15 +8,14 @@ mod probing;
 mod record_calls;
 mod terms;
 
-use book::Refusal;
 pub use extending::{extend, extend_with_equality};
 pub use probing::{record, record_trace_point};
 pub use record_calls::{append_constant, append_name, append_node};
 pub use terms::{TermFields, append_term};
 
-// The answer: the new record's number and the new book's length.
+// The answer of a call that is not refused: the new record's number and the new book's length.
 #[derive(Clone, Copy)]
-pub enum Appended {
-    Record(u32, usize),
-    Refused(Refusal),
+pub struct Appended {
+    pub number: u32,
+    pub length: usize,
 }

@@ -1,16 +1,16 @@
 // The call that appends a term, with the entries of its lists.
-ghost use Rattle.std.specs.Prelude.{◌≡◌, ◌^◌, ◌<◌, ◌≤◌, length};
+ghost use Rattle.std.specs.Prelude.{◌≡◌, ◌^◌, ◌<◌, ◌≤◌};
 ghost use Rattle.book.specs.Book.{lists};
 ghost use Rattle.book_writer.specs.Growths.{append_term, ranges_of, range_right, term_right};
 ghost use Rattle.book_writer.specs.Writing.{lent, grow_call, Returned};
-ghost use Rattle.book_writer.specs.Coded.{Ready, grow_in, Appends, fields_of, IsTermRow, listed_bytes};
+ghost use Rattle.book_writer.specs.Coded.{fields_of, IsTermRow, listed_bytes};
 
 use super::Appended;
-use super::appending::append;
-use book::count;
+use super::appending::{append, tested};
 use book::format::{APPLICATION, BUILT_IN, LISTS, QUANTIFIER_EXPR, TERMS};
-use book_test::{Tested, book_test};
-use new_records::{ROW7, range_start, row7};
+use book::{Refusal, count};
+use book_growth::{Additions, NOTHING};
+use new_records::{ROW7, range_start, row};
 
 // The fields of a new term, as its record has them; start and count of a range are 0.
 #[derive(Clone, Copy)]
@@ -75,38 +75,29 @@ fn term_row(
     requires { (behind ≤ lists.most) × (first < 2 ^ 62) }
     ensures { IsTermRow ranges behind (fields_of term) first second result }
 {
-    if ranges == 0 {
-        return row7(
-            term.kind as usize,
-            term.field1 as usize,
-            term.field2 as usize,
-            term.field3 as usize,
-            term.field4 as usize,
-            term.field5 as usize,
-            term.field6 as usize,
-        );
-    }
+    let TermFields {
+        kind,
+        field1,
+        field2,
+        field3,
+        field4,
+        field5,
+        field6,
+    } = term;
+    let kept = [
+        field2 as usize,
+        field3 as usize,
+        field4 as usize,
+        field5 as usize,
+    ];
     let start = range_start(behind, first);
-    if ranges == 1 {
-        return row7(
-            term.kind as usize,
-            term.field1 as usize,
-            start,
-            first,
-            term.field4 as usize,
-            term.field5 as usize,
-            term.field6 as usize,
-        );
-    }
-    row7(
-        term.kind as usize,
-        term.field1 as usize,
-        start,
-        first,
-        range_start(behind + first, second),
-        second,
-        term.field6 as usize,
-    )
+    let next = range_start(behind + first, second);
+    let [a, b, c, d] = match ranges {
+        0 => kept,
+        1 => [start, first, kept[2], kept[3]],
+        _ => [start, first, next, second],
+    };
+    row([kind as usize, field1 as usize, a, b, c, d, field6 as usize])
 }
 
 // How many bytes of a list its range takes.
@@ -119,18 +110,18 @@ fn listed(ranged: bool, length: usize) -> usize
     ENTRY * (length / ENTRY)
 }
 
-fn append_term_in<'a>(
-    book: &'a [u8],
+// Any book, scratch, fields, lists and buffer are taken.
+pub fn append_term<'a>(
+    book: &[u8],
     scratch: &mut [u8],
     term: TermFields,
     first: &'a [u8],
     second: &'a [u8],
     out: &mut [u8],
-) -> Appended
-    requires { Ready book.now scratch.old }
-    ensures { Appends (grow_in book.now (append_term (fields_of term) first.now second.now) (length out.old)) result out.old out.new scratch.old scratch.new }
+) -> Result<Appended, Refusal>
+    ensures { Returned (grow_call book.now (lent (append_term (fields_of term) first.now second.now) scratch.old out.old)) result out.new scratch.new }
 {
-    let nothing = [0; 0];
+    tested(book, scratch)?;
     let ranges = ranges_of(term.kind);
     let right = term_right(ranges, term, first, second);
     let row = term_row(
@@ -143,36 +134,11 @@ fn append_term_in<'a>(
     let first_end = listed(1 <= ranges, first.len());
     let second_end = listed(2 <= ranges, second.len());
     let number = count(book, TERMS) as u32;
-    append(
-        book,
-        scratch,
-        &nothing,
-        &nothing,
-        &nothing,
-        &nothing,
-        &row,
-        &nothing,
-        &first[..first_end],
-        &second[..second_end],
-        right,
-        number,
-        out,
-    )
-}
-
-// Any book, scratch, fields, lists and buffer are taken.
-pub fn append_term<'a>(
-    book: &'a [u8],
-    scratch: &mut [u8],
-    term: TermFields,
-    first: &'a [u8],
-    second: &'a [u8],
-    out: &mut [u8],
-) -> Appended
-    ensures { Returned (grow_call book.now (lent (append_term (fields_of term) first.now second.now) scratch.old out.old)) result out.new scratch.new }
-{
-    match book_test(book, scratch) {
-        Tested::Refused(why) => Appended::Refused(why),
-        Tested::Good => append_term_in(book, scratch, term, first, second, out),
-    }
+    let more = Additions {
+        terms: &row,
+        first: &first[..first_end],
+        second: &second[..second_end],
+        ..NOTHING
+    };
+    append(book, scratch, &more, right, number, out)
 }

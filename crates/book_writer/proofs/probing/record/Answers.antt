@@ -1,11 +1,30 @@
-use Rattle.book_writer.proofs.Calls.{ready_for, call_refused, call_good}
+use Rattle.std.specs.Prelude.{Ok, Err}
+use native.Mathlib.Omega.{arith}
+use mathlib.Core.Path.{◌≡◌, refl, sym, ap, ◌∙◌}
+use borrow.Author.Rules.{rules}
+use Rattle.book_writer.specs.Growths.{outside, handed_right, number_of}
+use Rattle.book_writer.specs.Coded.{grow_below}
+use Rattle.book_writer.proofs.Calls.{ready_for, call_refused, call_outside, call_good, is_outside, is_inside}
+use Rattle.new_records.specs.NewNames.{maybe_text}
+use Rattle.book_writer.specs.Growths.{record_term}
+use Rattle.book_writer.proofs.Probes.{inside_parent, recorded}
 use Rattle.book_writer.proofs.probing.record.Goals as goal
 
-pub record_in-requires : goal.record_in-requires
-record_in-requires c = ready_for _ _ _ c.book_test.ensures c.in-Good.is
+pub returns-in_err-tested : goal.returns-in_err-tested
+returns-in_err-tested c = call_refused _ _ _ _ c.in_err-tested.ensures (search rules)
 
-pub returns-in-Refused : goal.returns-in-Refused
-returns-in-Refused c = call_refused _ _ _ c.book_test.ensures _ _ c.in-Refused.is
+pub inside-requires : goal.inside-requires
+inside-requires c = (ready_for _ _ c.in_ok-tested.ensures).promise
 
-pub returns-in-Good : goal.returns-in-Good
-returns-in-Good c = call_good _ _ _ c.book_test.ensures _ _ c.in-Good.is c.record_in.ensures
+pub returns-in_err-inside : goal.returns-in_err-inside
+unfolding outside
+returns-in_err-inside c =
+    let o = is_outside _ c.in_err-inside.ensures in
+    call_outside _ _ _ _ c.in_ok-tested.ensures o.0 (let e : c.from_residual-in_err-inside.result ≡ Err c.in_err-inside.field-0.0 = search rules in e ∙ ap Err o.1)
+
+pub record_below-requires : goal.record_below-requires
+record_below-requires c = (ready_for _ _ c.in_ok-tested.ensures, inside_parent _ _ _ (is_inside _ c.in_ok-inside.ensures))
+
+pub returns : goal.returns
+unfolding outside
+returns c = call_good _ _ (record_term c.args.parent c.args.term c.args.typ (maybe_text c.args.trace)) _ c.in_ok-tested.ensures (is_inside _ c.in_ok-inside.ensures) (recorded _ _ _ _ _ _ c.record_below.ensures)

@@ -1,11 +1,29 @@
-use Rattle.book_writer.proofs.Calls.{ready_for, call_refused, call_good}
+use Rattle.std.specs.Prelude.{Ok, Err}
+use native.Mathlib.Omega.{arith}
+use mathlib.Core.Path.{◌≡◌, refl, sym, ap, ◌∙◌}
+use borrow.Author.Rules.{rules}
+use Rattle.book_writer.specs.Growths.{outside, handed_right, number_of}
+use Rattle.book_writer.specs.Coded.{grow_below}
+use Rattle.book_writer.proofs.Calls.{ready_for, call_refused, call_outside, call_good, is_outside, is_inside}
+use borrow.Author.Tests.{lt-ltb, le-ltb}
+use Rattle.book.specs.Book.{contexts, size}
+use Rattle.book_writer.specs.Growths.{record_trace_point}
+use Rattle.book_writer.proofs.Probes.{pointed}
 use Rattle.book_writer.proofs.probing.record_trace_point.Goals as goal
 
-pub record_trace_point_in-requires : goal.record_trace_point_in-requires
-record_trace_point_in-requires c = ready_for _ _ _ c.book_test.ensures c.in-Good.is
+pub returns-in_err-tested : goal.returns-in_err-tested
+returns-in_err-tested c = call_refused _ _ _ _ c.in_err-tested.ensures (search rules)
 
-pub returns-in-Refused : goal.returns-in-Refused
-returns-in-Refused c = call_refused _ _ _ c.book_test.ensures _ _ c.in-Refused.is
+pub count-requires : goal.count-requires
+count-requires c = (omega arith, omega (arith, (ready_for _ _ c.in_ok-tested.ensures).promise.contexts_laid.contents))
 
-pub returns-in-Good : goal.returns-in-Good
-returns-in-Good c = call_good _ _ _ c.book_test.ensures _ _ c.in-Good.is c.record_trace_point_in.ensures
+pub returns-then-count-parent : goal.returns-then-count-parent
+unfolding outside
+returns-then-count-parent c = call_outside _ _ (record_trace_point c.args.parent c.args.trace.now) _ c.in_ok-tested.ensures (lt-ltb (size c.args.book.now contexts) c.args.parent (omega (arith, c.count.ensures.is, c.if-count-parent.true))) refl
+
+pub record_below-requires : goal.record_below-requires
+record_below-requires c = (ready_for _ _ c.in_ok-tested.ensures, omega (arith, c.count.ensures.is, c.if-count-parent.false))
+
+pub returns : goal.returns
+unfolding outside
+returns c = call_good _ _ (record_trace_point c.args.parent c.args.trace.now) _ c.in_ok-tested.ensures (le-ltb (size c.args.book.now contexts) c.args.parent (omega (arith, c.count.ensures.is, c.if-count-parent.false))) (pointed _ _ _ c.args.trace c.record_below.ensures)

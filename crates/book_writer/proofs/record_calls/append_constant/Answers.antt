@@ -1,11 +1,23 @@
-use Rattle.book_writer.proofs.Calls.{ready_for, call_refused, call_good}
+use Rattle.std.specs.Prelude.{Ok, Err}
+use native.Mathlib.Omega.{arith}
+use mathlib.Core.Path.{◌≡◌, refl, sym, ap, ◌∙◌}
+use borrow.Author.Rules.{rules}
+use Rattle.book_writer.specs.Growths.{outside, handed_right, number_of}
+use Rattle.book_writer.specs.Coded.{grow_below}
+use Rattle.book_writer.proofs.Calls.{ready_for, call_refused, call_outside, call_good, is_outside, is_inside}
+use Rattle.book_writer.specs.Growths.{append_constant}
+use Rattle.book_writer.proofs.Additions.{whole_as, append_as, constant_added}
 use Rattle.book_writer.proofs.record_calls.append_constant.Goals as goal
 
-pub append_constant_in-requires : goal.append_constant_in-requires
-append_constant_in-requires c = ready_for _ _ _ c.book_test.ensures c.in-Good.is
+pub returns-in_err-tested : goal.returns-in_err-tested
+returns-in_err-tested c = call_refused _ _ _ _ c.in_err-tested.ensures (search rules)
 
-pub returns-in-Refused : goal.returns-in-Refused
-returns-in-Refused c = call_refused _ _ _ c.book_test.ensures _ _ c.in-Refused.is
+pub count-number-requires : goal.count-number-requires
+count-number-requires c = (omega arith, omega (arith, (ready_for _ _ c.in_ok-tested.ensures).promise.constants_laid.contents))
 
-pub returns-in-Good : goal.returns-in-Good
-returns-in-Good c = call_good _ _ _ c.book_test.ensures _ _ c.in-Good.is c.append_constant_in.ensures
+pub append-requires : goal.append-requires
+append-requires c = (ready_for _ _ c.in_ok-tested.ensures, whole_as c.args.book.now (append_constant c.args.name c.args.typ) (constant_added _ _ _ c.row-constants.ensures))
+
+pub returns : goal.returns
+unfolding outside grow_below handed_right number_of
+returns c = call_good _ _ (append_constant c.args.name c.args.typ) _ c.in_ok-tested.ensures refl (append_as _ _ _ (constant_added _ _ _ c.row-constants.ensures) c.count-number.ensures.is c.append.ensures)

@@ -1,3 +1,4 @@
+use native.Mathlib.Omega.{arith}
 use Rattle.book_writer.specs.Growths.{ranges_of}
 use Rattle.book_writer.proofs.Fields.{ranges_other}
 use borrow.Author.Rules.{rules}
@@ -16,4 +17,4 @@ unfolding ranges_of
 returns-in-8 c = search rules
 
 pub returns-in_default : goal.returns-in_default
-returns-in_default c = ranges_other _ c.in_default.in_default-own.rest.0.0.1 c.in_default.in_default-own.rest.0.1 c.in_default.in_default-own.rest.1
+returns-in_default c = ranges_other _ (omega arith) (omega arith) (omega arith)
