@@ -18,13 +18,11 @@ use Rattle.book.specs.declared.Refusal.{Refusal}
 use Rattle.book.specs.declared.Refusal.TheVariants.{CountOverLimit, FieldOutOfRange, BufferTooShort}
 use Rattle.book.specs.Book.{Book}
 use Rattle.book_test.specs.BookTest.{book_test, tested_value, book_test_call}
-use Rattle.book_test.specs.declared.Tested.{Tested}
-use Rattle.book_test.specs.declared.Tested.TheVariants.{Good, Refused}
 use Rattle.book_test.proofs.Answers.{ready_long}
 use Rattle.book_layout.specs.Layout.{book_most}
 use Rattle.book_growth.specs.Growth.{Addition, grown, grows_within}
 use Rattle.book_writer.specs.Writing.{Grown, Answer, numbers, book_of, appended_value}
-use Rattle.book_writer.specs.Coded.{Spare, Tried, tried_value, fitted, deliver, append_in, Copied, Appends}
+use Rattle.book_writer.specs.Coded.{Spare, Tried, fitted, deliver, append_in, Copied, Appends}
 
 copied_refused : {o : Outcome Grown} (why : Refusal) (t : List ℕ) → o ≡ refused (number why) → Copied o (Err why) t t
 unfolding appended_value map_outcome buffer_after
@@ -49,16 +47,6 @@ deliver_stops : (c : Book) (n room : ℕ) {k : ℕ} → book_test c ≡ refused 
 unfolding deliver ◌>>◌
 deliver_stops c n room e = rw e
 
--- ---- the test of a book
-module _ (b : Book) (s : List ℕ) {d : Tested} {s1 : List ℕ} (tested : (tested_value d ≡ (book_test_call b s).answer) × (s1 ≡ (book_test_call b s).scratch)) where
-  pub tried_refused : {why : Refusal} → d ≡ Refused why → Tried b s (Err why) s1
-  unfolding tested_value tried_value
-  tried_refused e = record { answer = (rw e at tested.0); scratch = tested.1 }
-
-  pub tried_good : d ≡ Good → Tried b s (Ok tt) s1
-  unfolding tested_value tried_value
-  tried_good e = record { answer = (rw e at tested.0); scratch = tested.1 }
-
 -- ---- of the new book, with the scratch that the first test left
 module _ (c : Book) (s : List ℕ) (S : Spare s) {s1 : List ℕ} where
   clean_again : s1 ≡ (book_test_call c s).scratch → s1 ≡ s
@@ -66,15 +54,15 @@ module _ (c : Book) (s : List ℕ) (S : Spare s) {s1 : List ℕ} where
   clean_again e = e ∙ S.clean
 
   pub test_refused : {why : Refusal} {r : Answer} (n : ℕ) (t : List ℕ) → Tried c s (Err why) s1 → r ≡ Err why → Appends (deliver c n (length t)) r t t s s1
-  unfolding book_test_call tried_value
+  unfolding book_test_call tested_value
   test_refused {why} n t T e =
-      rw (e, clean_again T.scratch) (refused_with why t s (deliver_stops c n (length t) (sym (T.answer ∙ sym (ready_long c (length s) S.long)))))
+      rw (e, clean_again T.1) (refused_with why t s (deliver_stops c n (length t) (sym (T.0 ∙ sym (ready_long c (length s) S.long)))))
 
   pub test_good : (n room : ℕ) {r : Answer} {t t' : List ℕ} → Tried c s (Ok tt) s1 → Copied (fitted c n room) r t t' → Appends (deliver c n room) r t t' s s1
-  unfolding book_test_call tried_value deliver ◌>>◌
+  unfolding book_test_call tested_value deliver ◌>>◌
   test_good n room T a =
-      let ok : book_test c ≡ accepted tt = sym (T.answer ∙ sym (ready_long c (length s) S.long)) in
-      record { copied = rw ok a; scratch = clean_again T.scratch }
+      let ok : book_test c ≡ accepted tt = sym (T.0 ∙ sym (ready_long c (length s) S.long)) in
+      record { copied = rw ok a; scratch = clean_again T.1 }
 
 -- ---- behind refusal 7
 module _ (b : Book) (a : Addition) (right : Bool) (n : ℕ) (t s : List ℕ) where

@@ -15,13 +15,13 @@ use Rattle.book.specs.declared.Refusal.{Refusal}
 use Rattle.book.specs.declared.Refusal.TheVariants.{NotInBook}
 use Rattle.std.proofs.Math.Bool.{or-true}
 use Rattle.book.specs.Book.{Book, terms, contexts, size}
-use Rattle.book_test.specs.BookTest.{ready, book_test_call}
+use Rattle.book_test.specs.BookTest.{ready, book_test_call, tested_value}
 use Rattle.book_test.proofs.Outcomes.{ready_passed}
 use Rattle.book_test.proofs.Answers.{zeroed}
 use Rattle.book_test.proofs.Promise.{promise}
 use Rattle.book_writer.specs.Growths.{Growth, outside_at, outside}
 use Rattle.book_writer.specs.Writing.{Answer, grow, lent, grown_left, outcome_of, grow_call, appended_value, Returned}
-use Rattle.book_writer.specs.Coded.{Spare, Ready, Tried, tried_value, Inside, fitted, deliver, append_in, grow_below, grow_in, Appends}
+use Rattle.book_writer.specs.Coded.{Spare, Ready, Tried, Inside, fitted, deliver, append_in, grow_below, grow_in, Appends}
 use Rattle.book_writer.proofs.Answers.{refused_with}
 
 -- ---- the scratch that a test leaves
@@ -43,11 +43,11 @@ stops b g room h = rw h
 module _ (b : Book) (s : List ℕ) {s1 : List ℕ} where
   scratch_left : {r : Result (Unit {0}) Refusal} → Tried b s r s1 → s1 ≡ scratch_after s
   unfolding book_test_call
-  scratch_left T = T.scratch
+  scratch_left T = T.1
 
   passed : Tried b s (Ok tt) s1 → ready (length s) b ≡ accepted tt
-  unfolding book_test_call tried_value
-  passed T = sym T.answer
+  unfolding book_test_call tested_value
+  passed T = sym T.0
 
   pub ready_for : Tried b s (Ok tt) s1 → Ready b s1
   ready_for T =
@@ -55,9 +55,9 @@ module _ (b : Book) (s : List ℕ) {s1 : List ℕ} where
       record { tested = r.1; promise = promise b r.1; spare = rw (scratch_left T) (spare s r.0) }
 
   pub call_refused : (g : Growth) (t : List ℕ) {why : Refusal} {r : Answer} → Tried b s (Err why) s1 → r ≡ Err why → Returned (grow_call b (lent g s t)) r t s1
-  unfolding book_test_call tried_value grow_call grown_left outcome_of appended_value map_outcome buffer_after ◌>>◌
+  unfolding book_test_call tested_value grow_call grown_left outcome_of appended_value map_outcome buffer_after ◌>>◌
   call_refused g t {why} T e =
-      let stopped : ready (length s) b ≡ refused (number why) = sym T.answer in
+      let stopped : ready (length s) b ≡ refused (number why) = sym T.0 in
       rw (e, by_steps (length s) b g (length t), stopped) (record { answer = refl; buffer' = refl; scratch'' = scratch_left T })
 
   call_in : (g : Growth) (t : List ℕ) {r : Answer} {t1 s2 : List ℕ} → Tried b s (Ok tt) s1 → Appends (grow_in b g (length t)) r t t1 s1 s2 → Returned (grow_call b (lent g s t)) r t1 s2

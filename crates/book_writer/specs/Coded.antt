@@ -9,7 +9,7 @@ use Rattle.book.specs.Book.{Book, terms, contexts, size}
 use Rattle.book.specs.Program.{depth}
 use Rattle.book.specs.Decode.{program}
 use Rattle.name_search.specs.Probe.{probe_name}
-use Rattle.book_test.specs.BookTest.{book_test, book_test_call}
+use Rattle.book_test.specs.BookTest.{book_test, book_test_call, tested_value}
 use Rattle.book_test.specs.Promise.{Promise}
 use Rattle.book_growth.specs.Growth.{Addition, grown, grows_within}
 use Rattle.new_records.specs.Drafts.{NewTerm, new_term, true_term, new_node, new_constant, constant_row, term_row, node_row, addition_from}
@@ -63,14 +63,9 @@ grow_in b g room = do
   refuse 7 (outside b g)
   grow_below b g room
 
--- the test of a book, as a call begins with it
-unfoldable pub tried_value : Result (Unit {0}) Refusal → Outcome (Unit {0})
-tried_value (Ok x) = accepted tt
-tried_value (Err r) = refused (number r)
-
-pub record Tried (b : Book) (s : List ℕ) (r : Result (Unit {0}) Refusal) (s' : List ℕ) : Type 0 where
-  pub answer : tried_value r ≡ (book_test_call b s).answer
-  pub scratch : s' ≡ (book_test_call b s).scratch
+-- what the test of a book, with which a call begins, answers and leaves
+abbrev pub Tried : Book → (s : List ℕ) → Result (Unit {0}) Refusal → (s' : List ℕ) → Type 0
+Tried b s r s' = (tested_value r ≡ (book_test_call b s).answer) × (s' ≡ (book_test_call b s).scratch)
 
 -- the answer of a test for refusal 7
 pub record Inside (outside : Bool) (r : Result (Unit {0}) Refusal) : Type 0 where

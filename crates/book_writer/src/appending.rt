@@ -7,14 +7,14 @@ ghost use Rattle.book_growth.specs.Parts.{addition_by};
 ghost use Rattle.book_layout.specs.Layout.{book_most};
 ghost use Rattle.book_test.specs.Promise.{Promise};
 ghost use Rattle.book_writer.specs.Growths.{outside_at};
-ghost use Rattle.book_writer.specs.Coded.{Ready, Spare, fitted, deliver, append_in, Appends, Copied, Tried, Inside};
+ghost use Rattle.book_writer.specs.Coded.{Ready, Spare, fitted, deliver, append_in, Appends, Copied, Inside};
 
 use super::Appended;
 use basics::put_all;
 use book::format::{CONTEXTS, TERMS};
 use book::{Refusal, count};
 use book_growth::{Additions, grow_into, grows_within};
-use book_test::{Tested, book_test};
+use book_test::book_test;
 
 // The length of a book whose sections are all full.
 const BOOK_MOST: usize = 63312;
@@ -24,16 +24,6 @@ fn largest() -> [u8; BOOK_MOST]
     ensures { length result ≡ book_most }
 {
     [0; BOOK_MOST]
-}
-
-// Refusals 1 to 6 and 28.
-pub fn tested(book: &[u8], scratch: &mut [u8]) -> Result<(), Refusal>
-    ensures { Tried book.now scratch.old result scratch.new }
-{
-    match book_test(book, scratch) {
-        Tested::Refused(why) => Err(why),
-        Tested::Good => Ok(()),
-    }
 }
 
 // Refusal 7, of a parent and a term.
@@ -71,7 +61,7 @@ fn test_and_copy(
     requires { Spare scratch.old }
     ensures { Appends (deliver book.now number (length out.old)) result out.old out.new scratch.old scratch.new }
 {
-    tested(book, scratch)?;
+    book_test(book, scratch)?;
     copy(book, number, out)
 }
 

@@ -8,9 +8,10 @@ ghost use Rattle.book_writer.specs.Writing.{lent, grow_call, Returned};
 ghost use Rattle.book_writer.specs.Coded.{IsTraced};
 
 use super::Appended;
-use super::appending::{append, inside, tested};
+use super::appending::{append, inside};
 use book::format::{CONTEXTS, LETTERS, LISTS, TERMS};
 use book::{Refusal, count};
+use book_test::book_test;
 use book_growth::{Additions, NOTHING};
 use new_records::{Before, EQUALS, Numbered, ROW2, ROW3, equality, name_parts, named, row};
 
@@ -62,7 +63,7 @@ pub fn extend(
 ) -> Result<Appended, Refusal>
     ensures { Returned (grow_call book.now (lent (extend parent term (maybe_text trace.entry)) scratch.old out.old)) result out.new scratch.new }
 {
-    tested(book, scratch)?;
+    book_test(book, scratch)?;
     inside(book, parent, term)?;
     let name = traced(book, trace);
     let parts = name_parts(count(book, LETTERS), &NO_NAMES, name.new);
@@ -90,7 +91,7 @@ pub fn extend_with_equality(
 ) -> Result<Appended, Refusal>
     ensures { Returned (grow_call book.now (lent (extend_with_equality parent constant term) scratch.old out.old)) result out.new scratch.new }
 {
-    tested(book, scratch)?;
+    book_test(book, scratch)?;
     inside(book, parent, term)?;
     let operator = named(book, EQUALS, &NO_NAMES);
     let before = Before {

@@ -9,11 +9,12 @@ ghost use Rattle.book_writer.specs.Writing.{lent, grow_call, Returned};
 ghost use Rattle.book_writer.specs.Coded.{Ready, probe_below, probe_by, Appends};
 
 use super::Appended;
-use super::appending::{append, inside, tested};
+use super::appending::{append, inside};
 use super::extending::next_node;
 use super::probe_rows::probe_rows;
 use book::format::{CONTEXTS, LETTERS};
 use book::{Refusal, count};
+use book_test::book_test;
 use book_growth::{Additions, NOTHING};
 use contexts::path_of;
 use name_search::probe_name;
@@ -95,7 +96,7 @@ pub fn record(
 ) -> Result<Appended, Refusal>
     ensures { Returned (grow_call book.now (lent (record_term parent term typ (maybe_text trace.entry)) scratch.old out.old)) result out.new scratch.new }
 {
-    tested(book, scratch)?;
+    book_test(book, scratch)?;
     inside(book, parent, term)?;
     record_below(book, scratch, parent, Some(term), typ, trace, out)
 }
@@ -110,7 +111,7 @@ pub fn record_trace_point(
 ) -> Result<Appended, Refusal>
     ensures { Returned (grow_call book.now (lent (record_trace_point parent trace.now) scratch.old out.old)) result out.new scratch.new }
 {
-    tested(book, scratch)?;
+    book_test(book, scratch)?;
     if count(book, CONTEXTS) < parent as usize {
         return Err(Refusal::NotInBook);
     }

@@ -3,10 +3,11 @@ ghost use Rattle.book_writer.specs.Growths.{append_name, append_constant, append
 ghost use Rattle.book_writer.specs.Writing.{lent, grow_call, Returned};
 
 use super::Appended;
-use super::appending::{append, inside, tested};
+use super::appending::{append, inside};
 use super::extending::next_node;
 use book::format::{CONSTANTS, LETTERS, NAMES};
 use book::{Refusal, count};
+use book_test::book_test;
 use book_growth::{Additions, NOTHING};
 use new_records::{ROW2, ROW3, name_row, row};
 
@@ -19,7 +20,7 @@ pub fn append_name(
 ) -> Result<Appended, Refusal>
     ensures { Returned (grow_call book.now (lent (append_name text.now) scratch.old out.old)) result out.new scratch.new }
 {
-    tested(book, scratch)?;
+    book_test(book, scratch)?;
     let names = name_row(count(book, LETTERS), text.len());
     let number = count(book, NAMES) as u32;
     let more = Additions {
@@ -40,7 +41,7 @@ pub fn append_constant(
 ) -> Result<Appended, Refusal>
     ensures { Returned (grow_call book.now (lent (append_constant name typ) scratch.old out.old)) result out.new scratch.new }
 {
-    tested(book, scratch)?;
+    book_test(book, scratch)?;
     let constants: [u8; ROW2] = row([name as usize, typ as usize]);
     let number = count(book, CONSTANTS) as u32;
     let more = Additions {
@@ -61,7 +62,7 @@ pub fn append_node(
 ) -> Result<Appended, Refusal>
     ensures { Returned (grow_call book.now (lent (append_node parent term trace) scratch.old out.old)) result out.new scratch.new }
 {
-    tested(book, scratch)?;
+    book_test(book, scratch)?;
     inside(book, parent, term)?;
     let contexts: [u8; ROW3] = row([parent as usize, term as usize, trace as usize]);
     let more = Additions {

@@ -6,9 +6,10 @@ ghost use Rattle.book_writer.specs.Writing.{lent, grow_call, Returned};
 ghost use Rattle.book_writer.specs.Coded.{fields_of, IsTermRow, listed_bytes};
 
 use super::Appended;
-use super::appending::{append, tested};
+use super::appending::append;
 use book::format::{APPLICATION, BUILT_IN, LISTS, QUANTIFIER_EXPR, TERMS};
 use book::{Refusal, count};
+use book_test::book_test;
 use book_growth::{Additions, NOTHING};
 use new_records::{ROW7, range_start, row};
 
@@ -121,7 +122,7 @@ pub fn append_term<'a>(
 ) -> Result<Appended, Refusal>
     ensures { Returned (grow_call book.now (lent (append_term (fields_of term) first.now second.now) scratch.old out.old)) result out.new scratch.new }
 {
-    tested(book, scratch)?;
+    book_test(book, scratch)?;
     let ranges = ranges_of(term.kind);
     let right = term_right(ranges, term, first, second);
     let row = term_row(

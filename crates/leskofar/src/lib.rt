@@ -4,7 +4,7 @@ ghost use Rattle.std.specs.Prelude.{◌≡◌};
 ghost use Rattle.book_test.specs.BookTest.{tested_value, book_test_call};
 ghost use Rattle.leskofar.specs.Exports.{refusal_of};
 
-use book_test::Tested;
+use book::Refusal;
 use refusal_numbers::number;
 
 mod audit_call;
@@ -30,12 +30,12 @@ pub use writer_calls::{
 const ACCEPTED: u32 = 0;
 
 // The refusal's number, or ACCEPTED.
-fn refusal(tested: Tested) -> u32
+fn refusal(tested: Result<(), Refusal>) -> u32
     ensures { result ≡ refusal_of (tested_value tested) }
 {
     match tested {
-        Tested::Good => ACCEPTED,
-        Tested::Refused(r) => number(r),
+        Ok(()) => ACCEPTED,
+        Err(why) => number(why),
     }
 }
 

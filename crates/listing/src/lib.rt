@@ -10,11 +10,11 @@ ghost use Rattle.contexts.specs.Path.{IsNode, IsBelow};
 ghost use Rattle.rsolver.specs.Listing.{listing_line, print_context, print_proof_obligation, listing_call};
 ghost use Rattle.solver_expr.specs.Print.{printed_value, fitting, Answered};
 
+use book_test::book_test;
 use basics::put_at;
 use book::format::{CONTEXT_TERM, CONTEXTS, TERMS};
 use book::{Refusal, count, field};
 use listing_terms::rexpr_to_string;
-use solver_expr::tested;
 
 // A line: term t, two spaces in.
 fn put_line(book: &[u8], t: usize, at: usize, out: &mut [u8]) -> usize
@@ -82,7 +82,7 @@ pub fn listing(
 ) -> Result<usize, Refusal>
     ensures { (printed_value result ≡ (listing_call book.now scratch.old node goal text.old).answer) × (text.new ≡ (listing_call book.now scratch.old node goal text.old).text) × (scratch.new ≡ (listing_call book.now scratch.old node goal text.old).scratch) }
 {
-    tested(book, scratch)?;
+    book_test(book, scratch)?;
     if count(book, CONTEXTS) < node {
         return Err(Refusal::NotInBook);
     }

@@ -9,12 +9,13 @@ ghost use Rattle.solvers.specs.Returned.{lent, Returned, Given};
 ghost use Rattle.solvers.specs.Rule.{goal_state, present, session_at};
 ghost use Rattle.moves.specs.Moves.{Asker, Measured, Arrived, ask_commands, ask_known, ask_in};
 
+use book_test::book_test;
 use book::format::{CONTEXTS, TERMS};
 use book::{Refusal, count};
 use engine::question;
 use levels::Progress;
 use session_test::is_session;
-use solvers::{Answer, Called, Owed, Session, tested};
+use solvers::{Answer, Called, Owed, Session};
 
 // The text on an empty slice: its length, and whether an axiom is missing.
 fn measure(session: &Session, book: &[u8], node: u32, goal: u32) -> Progress
@@ -111,7 +112,7 @@ pub fn ask_mut(
 ) -> Result<Answer, Refusal>
     ensures { Returned (called book.now session.old (ask_for (lent scratch.old text.old []) node goal)) (record { answer = result; session = session.new }) text.new [] scratch.new }
 {
-    tested(book, scratch)?;
+    book_test(book, scratch)?;
     ask_in(session, book, node, goal, text)
 }
 

@@ -10,12 +10,13 @@ ghost use Rattle.solvers.specs.Returned.{lent, Returned, Given};
 ghost use Rattle.solvers.specs.Rule.{move_commands, present, session_at};
 ghost use Rattle.moves.specs.Moves.{Mover, Measured, Arrived, move_known, move_in};
 
+use book_test::book_test;
 use book::format::CONTEXTS;
 use book::{Refusal, count};
 use engine::set_context;
 use levels::Progress;
 use session_test::is_session;
-use solvers::{Answer, Called, NO_GOAL, Owed, Session, tested};
+use solvers::{Answer, Called, NO_GOAL, Owed, Session};
 
 // The text on an empty slice: its length, and whether an axiom is missing.
 fn measure(session: &Session, book: &[u8], node: u32) -> Progress
@@ -92,7 +93,7 @@ pub fn move_mut(
 ) -> Result<Answer, Refusal>
     ensures { Returned (called book.now session.old (move_to (lent scratch.old text.old []) node)) (record { answer = result; session = session.new }) text.new [] scratch.new }
 {
-    tested(book, scratch)?;
+    book_test(book, scratch)?;
     move_in(session, book, node, text)
 }
 

@@ -16,7 +16,7 @@ use Rattle.book.specs.declared.Refusal.TheVariants.{NoSession, TooDeepForNarrow}
 use Rattle.book.specs.Book.{Book}
 use Rattle.book.specs.Program.{depth}
 use Rattle.book.specs.Decode.{program}
-use Rattle.book_test.specs.BookTest.{ready, book_test_call}
+use Rattle.book_test.specs.BookTest.{ready, tested_value, book_test_call}
 use Rattle.book_test.specs.Promise.{Promise}
 use Rattle.std.specs.Prelude.{Result, Ok, Err}
 use Rattle.contexts.specs.Path.{IsNode}
@@ -25,7 +25,7 @@ use Rattle.solvers.specs.declared.NarrowSession.{NarrowSession}
 use Rattle.solvers.specs.Calls.{is_session}
 use Rattle.solvers.specs.Image.{no_session}
 use Rattle.solvers.specs.Narrow.{narrow_depth, wide_of, narrow_of, is_narrow, widened, narrowed, no_narrow, Turned, answer_of, or_else, widen_call, narrow_call, Bytes}
-use Rattle.solvers.proofs.Returned.{refuses, lets}
+use Rattle.solvers.proofs.Returned.{stops, passes}
 use Rattle.solvers.specs.Returned.{outcome_of}
 use Rattle.solvers.proofs.IsSession.{stands, within_depth}
 use Rattle.narrow_sessions.specs.Turned.{widened_in, narrowed_in, TurnReturned}
@@ -85,11 +85,11 @@ unfolding turn narrow_call narrowed narrowed_in
 narrow_turn b s scratch = refl
 
 module _ {S : Type 0} (b : Book) (scratch : List ℕ) (none : S) (o : Outcome S) {l : Turned S} (is : turn b scratch none o ≡ l) {d : Result (Unit {0}) Refusal} {scratch' : List ℕ}
-    (h : (outcome_of d ≡ (book_test_call b scratch).answer) × (scratch' ≡ (book_test_call b scratch).scratch)) where
+    (h : (tested_value d ≡ (book_test_call b scratch).answer) × (scratch' ≡ (book_test_call b scratch).scratch)) where
   pub turn_stops : {why : Refusal} → d ≡ Err why → TurnReturned l none (Err why) scratch'
   unfolding turn ◌>>◌ book_test_call outcome_of answer_of or_else
-  turn_stops e = let t = refuses b scratch h.0 e in rw (sym is) (record { answer = rw t; session = rw t; scratch'' = h.1 })
+  turn_stops e = let t = stops b scratch h.0 e in rw (sym is) (record { answer = rw t; session = rw t; scratch'' = h.1 })
 
   pub turn_passes : {u : Unit {0}} {r : Result S Refusal} → d ≡ Ok u → outcome_of r ≡ o → TurnReturned l none r scratch'
   unfolding turn ◌>>◌ book_test_call
-  turn_passes e g = let t = lets b scratch h.0 e in rw (sym is) (record { answer = rw (t, g); session = rw (t, g); scratch'' = h.1 })
+  turn_passes e g = let t = passes b scratch h.0 e in rw (sym is) (record { answer = rw (t, g); session = rw (t, g); scratch'' = h.1 })

@@ -3,11 +3,11 @@
 ghost use Rattle.solvers.specs.Narrow.{widened_on_image, narrowed_on_image};
 ghost use Rattle.narrow_sessions.specs.Turned.{ImageTurned};
 
+use book_test::book_test;
 use super::image::{NARROW_IMAGE, load_narrow, save_narrow};
 use super::turning::{narrow_in, widen_in};
 use book::Refusal;
 use images::{IMAGE, load, save};
-use solvers::tested;
 
 // Any book, scratch and bytes are taken.
 pub fn widen_image(
@@ -18,7 +18,7 @@ pub fn widen_image(
 ) -> Result<(), Refusal>
     ensures { ImageTurned (widened_on_image book.now scratch.old narrow.now image.old) result image.new scratch.new }
 {
-    tested(book, scratch)?;
+    book_test(book, scratch)?;
     if image.len() != IMAGE {
         return Err(Refusal::NoSession);
     }
@@ -35,7 +35,7 @@ pub fn narrow_image(
 ) -> Result<(), Refusal>
     ensures { ImageTurned (narrowed_on_image book.now scratch.old image.now narrow.old) result narrow.new scratch.new }
 {
-    tested(book, scratch)?;
+    book_test(book, scratch)?;
     if narrow.len() != NARROW_IMAGE {
         return Err(Refusal::NoSession);
     }

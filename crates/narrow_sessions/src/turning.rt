@@ -9,11 +9,12 @@ ghost use Rattle.solvers.specs.Narrow.{narrow_depth, wide_of, narrow_of, no_narr
 ghost use Rattle.solvers.specs.Returned.{outcome_of};
 ghost use Rattle.narrow_sessions.specs.Turned.{widened_in, narrowed_in, TurnReturned};
 
+use book_test::book_test;
 use super::level_turns::{narrow_levels, wide_levels};
 use book::Refusal;
 use engine::depth_of;
 use session_test::is_session;
-use solvers::{NarrowSession, Session, tested};
+use solvers::{NarrowSession, Session};
 
 // A narrow session's node is at most this deep.
 const NARROW_DEPTH: usize = 64;
@@ -83,13 +84,13 @@ pub fn narrow_in(s: &Session, book: &[u8]) -> Result<NarrowSession, Refusal>
 pub fn widen(s: &NarrowSession, book: &[u8], scratch: &mut [u8]) -> Result<Session, Refusal>
     ensures { TurnReturned (widen_call book.now s.now scratch.old) no_session result scratch.new }
 {
-    tested(book, scratch)?;
+    book_test(book, scratch)?;
     widen_in(s, book)
 }
 
 pub fn narrow(s: &Session, book: &[u8], scratch: &mut [u8]) -> Result<NarrowSession, Refusal>
     ensures { TurnReturned (narrow_call book.now s.now scratch.old) no_narrow result scratch.new }
 {
-    tested(book, scratch)?;
+    book_test(book, scratch)?;
     narrow_in(s, book)
 }

@@ -5,10 +5,11 @@ ghost use Rattle.solver_expr.specs.Print.{printed_value, print_call, fitting, An
 ghost use Rattle.solver_expr.specs.Values.{Ready};
 ghost use Rattle.printing.specs.Calls.{layout_of, term_text};
 
+use book_test::book_test;
 use book::format::TERMS;
 use book::{Refusal, count};
 use printer::{SExprPrintConfig, to_string};
-use solver_expr::{tested, to_sexpr};
+use solver_expr::to_sexpr;
 
 // Measures the text on an empty slice, and then writes it, or refuses one that is too long.
 fn print_term(
@@ -45,7 +46,7 @@ pub fn print(
     ensures text { text.new ≡ (print_call book.now scratch.old t tag (layout_of newlines indent) text.old).text }
     ensures scratch { scratch.new ≡ (print_call book.now scratch.old t tag (layout_of newlines indent) text.old).scratch }
 {
-    tested(book, scratch)?;
+    book_test(book, scratch)?;
     if count(book, TERMS) <= t {
         return Err(Refusal::NotInBook);
     }

@@ -6,11 +6,12 @@ ghost use Rattle.solvers.specs.Left.{called};
 ghost use Rattle.solvers.specs.Returned.{lent, lent_text, Returned, Given};
 ghost use Rattle.replies.specs.Replies.{model_owed, model_in};
 
+use book_test::book_test;
 use super::closing::close_unproved;
 use super::reply::is_unsat;
 use book::Refusal;
 use session_test::is_session;
-use solvers::{Answer, Called, Owed, Session, tested};
+use solvers::{Answer, Called, Owed, Session};
 
 // In a session that owes a model.
 fn model_owed(
@@ -62,7 +63,7 @@ pub fn model_mut(
 ) -> Result<Answer, Refusal>
     ensures { Returned (called book.now session.old (model_with (lent scratch.old text.old reason.old) reply.now (lent_text model.entry))) (record { answer = result; session = session.new }) text.new reason.new scratch.new }
 {
-    tested(book, scratch)?;
+    book_test(book, scratch)?;
     model_in(session, book, reply, model, text, reason)
 }
 

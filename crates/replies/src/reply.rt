@@ -7,12 +7,13 @@ ghost use Rattle.solvers.specs.Left.{called};
 ghost use Rattle.solvers.specs.Returned.{lent, heard, Returned, Given};
 ghost use Rattle.replies.specs.Replies.{reply_in};
 
+use book_test::book_test;
 use super::closing::{close_proved, close_unproved};
 use basics::same;
 use book::Refusal;
 use session_test::is_session;
 use smt_engines::get_model;
-use solvers::{Answer, Called, Owed, Session, tested};
+use solvers::{Answer, Called, Owed, Session};
 
 // The one reply on which a goal is proved.
 const UNSAT: [u8; 5] = *b"unsat";
@@ -85,7 +86,7 @@ pub fn reply_mut(
 ) -> Result<Answer, Refusal>
     ensures { Returned (called book.now session.old (reply_with (lent scratch.old text.old reason.old) (is_ok check.entry) (heard check.entry))) (record { answer = result; session = session.new }) text.new reason.new scratch.new }
 {
-    tested(book, scratch)?;
+    book_test(book, scratch)?;
     reply_in(session, book, check, text, reason)
 }
 

@@ -4,4 +4,3 @@ pub mod Operators
 pub mod Print
 pub mod Values
 pub mod SymbolsHold
-pub mod Tested

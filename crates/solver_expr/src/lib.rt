@@ -9,10 +9,8 @@ use basics::SIGN;
 use book::field;
 use book::format::{CONSTANT_NAME, CONSTANTS};
 
-mod book_call;
 mod lowering;
 
-pub use book_call::tested;
 pub use lowering::{integer_bits, to_sexpr, type_to_sexpr};
 
 // The words of lowered terms, and Equals and And, which the Dafny names beside them.

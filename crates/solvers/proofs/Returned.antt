@@ -18,8 +18,6 @@ use Rattle.book.specs.declared.Refusal.TheVariants.{BufferTooShort}
 use Rattle.book.specs.Book.{Book}
 use Rattle.book_test.specs.BookTest.{ready, tested_value, book_test_call}
 use Rattle.book_test.specs.Promise.{Promise}
-use Rattle.book_test.specs.declared.Tested.{Tested}
-use Rattle.book_test.specs.declared.Tested.TheVariants as tested
 use Rattle.book_test.proofs.Outcomes.{ready_passed}
 use Rattle.book_test.proofs.Promise.{promise}
 use Rattle.std.specs.Prelude.{Result, Ok, Err}
@@ -30,7 +28,7 @@ use Rattle.solvers.specs.declared.Session.{Session}
 use Rattle.solvers.specs.Session.{Written, Proved, Unproved, text_of}
 use Rattle.solvers.specs.Calls.{Call, host_of, call, reason_of, fitting}
 use Rattle.solvers.specs.Left.{answer_value, values_by, values, reason, session_after, left, called}
-use Rattle.solvers.specs.Returned.{lent, Returned, Given, outcome_of}
+use Rattle.solvers.specs.Returned.{lent, Returned, Given}
 
 pub given_refused : (o : Outcome Written) (why : Refusal) (s : Session) (t e : List ℕ) → o ≡ refused (number why)
     → Given o s (record { answer = Err why; session = s }) t t e e
@@ -43,42 +41,29 @@ unfolding called left
 returned b s c g z = record { answer = g.answer; session = g.session; text' = g.text; reason' = g.reason; scratch'' = z }
 
 -- what the book test answered
-module _ (b : Book) (scratch : List ℕ) {d : Tested} (h : tested_value d ≡ (book_test_call b scratch).answer) where
-  pub stops : {why : Refusal} → d ≡ tested.Refused why → ready (length scratch) b ≡ refused (number why)
+module _ (b : Book) (scratch : List ℕ) {d : Result (Unit {0}) Refusal} (h : tested_value d ≡ (book_test_call b scratch).answer) where
+  pub stops : {why : Refusal} → d ≡ Err why → ready (length scratch) b ≡ refused (number why)
   unfolding book_test_call tested_value
   stops e = sym h ∙ ap tested_value e
 
-  pub passes : d ≡ tested.Good → ready (length scratch) b ≡ accepted tt
+  pub passes : {u : Unit {0}} → d ≡ Ok u → ready (length scratch) b ≡ accepted tt
   unfolding book_test_call tested_value
   passes e = sym h ∙ ap tested_value e
 
-  pub book_good : d ≡ tested.Good → Promise b
+  pub book_good : {u : Unit {0}} → d ≡ Ok u → Promise b
   book_good e = promise b (ready_passed (length scratch) b (passes e)).1
-
--- the same of a test whose refusal is handed on
-module _ (b : Book) (scratch : List ℕ) {d : Result (Unit {0}) Refusal} (h : outcome_of d ≡ (book_test_call b scratch).answer) where
-  pub refuses : {why : Refusal} → d ≡ Err why → ready (length scratch) b ≡ refused (number why)
-  unfolding book_test_call outcome_of
-  refuses e = sym h ∙ ap outcome_of e
-
-  pub lets : {u : Unit {0}} → d ≡ Ok u → ready (length scratch) b ≡ accepted tt
-  unfolding book_test_call outcome_of
-  lets e = sym h ∙ ap outcome_of e
-
-  pub lets_good : {u : Unit {0}} → d ≡ Ok u → Promise b
-  lets_good e = promise b (ready_passed (length scratch) b (lets e)).1
 
 -- a call behind the book test, with what it gives in a book that passed
 module _ (b : Book) (s : Session) (c : Call) (o : Outcome Written) (is : call b s c ≡ (ready (length (host_of c).scratch) b >> o)) {d : Result (Unit {0}) Refusal} {scratch : List ℕ}
-    (h : (outcome_of d ≡ (book_test_call b (host_of c).scratch).answer) × (scratch ≡ (book_test_call b (host_of c).scratch).scratch)) where
+    (h : (tested_value d ≡ (book_test_call b (host_of c).scratch).answer) × (scratch ≡ (book_test_call b (host_of c).scratch).scratch)) where
   pub call_stops : {why : Refusal} → d ≡ Err why → Returned (called b s c) (record { answer = Err why; session = s }) (host_of c).text (host_of c).reason scratch
   unfolding ◌>>◌ book_test_call
-  call_stops {why} e = returned b s c (given_refused (call b s c) why s (host_of c).text (host_of c).reason (rw (is, refuses b (host_of c).scratch h.0 e))) h.1
+  call_stops {why} e = returned b s c (given_refused (call b s c) why s (host_of c).text (host_of c).reason (rw (is, stops b (host_of c).scratch h.0 e))) h.1
 
   pub call_passes : {u : Unit {0}} {r : Called} {t' e' : List ℕ} → d ≡ Ok u → Given o s r (host_of c).text t' (host_of c).reason e' → Returned (called b s c) r t' e' scratch
   unfolding ◌>>◌ book_test_call
   call_passes {r = r} {t' = t'} {e' = e'} e g =
-      let same : o ≡ call b s c = sym (is ∙ rw (lets b (host_of c).scratch h.0 e)) in
+      let same : o ≡ call b s c = sym (is ∙ rw (passes b (host_of c).scratch h.0 e)) in
       let g' : Given (call b s c) s r (host_of c).text t' (host_of c).reason e' = rw same at g in
       returned b s c g' h.1
 

@@ -6,7 +6,6 @@ ghost use Rattle.solvers.specs.Returned.{outcome_of};
 ghost use Rattle.solvers.specs.Session.{fresh_session};
 
 use book::Refusal;
-use book_test::{Tested, book_test};
 use session_levels::{LEVEL_COUNT, Level};
 
 // What an open question waits for.
@@ -64,15 +63,5 @@ impl Session {
             owed: Owed::Nothing,
             levels: session_levels::blank(),
         }
-    }
-}
-
-// The book test, whose refusal a call hands on by `?`.
-pub fn tested(book: &[u8], scratch: &mut [u8]) -> Result<(), Refusal>
-    ensures { (outcome_of result ≡ (book_test_call book.now scratch.old).answer) × (scratch.new ≡ (book_test_call book.now scratch.old).scratch) }
-{
-    match book_test(book, scratch) {
-        Tested::Good => Ok(()),
-        Tested::Refused(why) => Err(why),
     }
 }

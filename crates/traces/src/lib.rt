@@ -10,9 +10,9 @@ ghost use Rattle.rsolver.specs.Trace.{trace_line, print_trace, trace_call};
 ghost use Rattle.solver_expr.specs.Print.{printed_value, Answered};
 ghost use Rattle.traces.specs.Call.{trace_in};
 
+use book_test::book_test;
 use book::Refusal;
 use book::format::{CONTEXT_TRACE, CONTEXTS};
-use solver_expr::tested;
 
 // The field of a node without trace; that of another is its name's number and one.
 const NO_TRACE: usize = 0;
@@ -80,6 +80,6 @@ pub fn trace(
 ) -> Result<usize, Refusal>
     ensures { (printed_value result ≡ (trace_call book.now scratch.old node text.old).answer) × (text.new ≡ (trace_call book.now scratch.old node text.old).text) × (scratch.new ≡ (trace_call book.now scratch.old node text.old).scratch) }
 {
-    tested(book, scratch)?;
+    book_test(book, scratch)?;
     trace_in(book, node, text)
 }

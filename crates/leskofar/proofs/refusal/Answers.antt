@@ -3,10 +3,10 @@ use Rattle.book_test.specs.BookTest.{tested_value}
 use Rattle.leskofar.specs.Exports.{refusal_of}
 use Rattle.leskofar.proofs.refusal.Goals as goal
 
-pub returns-in-Good : goal.returns-in-Good
+pub returns-in-Ok : goal.returns-in-Ok
 unfolding refusal_of tested_value
-returns-in-Good c = sym (ap refusal_of (ap tested_value c.in-Good.is))
+returns-in-Ok c = sym (ap refusal_of (ap tested_value c.in-Ok.is))
 
-pub returns-in-Refused : goal.returns-in-Refused
+pub returns-in-Err : goal.returns-in-Err
 unfolding refusal_of tested_value
-returns-in-Refused c = c.number.ensures ∙ sym (ap refusal_of (ap tested_value c.in-Refused.is))
+returns-in-Err c = c.number.ensures ∙ sym (ap refusal_of (ap tested_value c.in-Err.is))

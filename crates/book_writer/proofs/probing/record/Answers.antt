@@ -10,21 +10,21 @@ use Rattle.book_writer.specs.Growths.{record_term}
 use Rattle.book_writer.proofs.Probes.{inside_parent, recorded}
 use Rattle.book_writer.proofs.probing.record.Goals as goal
 
-pub returns-in_err-tested : goal.returns-in_err-tested
-returns-in_err-tested c = call_refused _ _ _ _ c.in_err-tested.ensures (search rules)
+pub returns-in_err-book_test : goal.returns-in_err-book_test
+returns-in_err-book_test c = call_refused _ _ _ _ c.in_err-book_test.ensures (search rules)
 
 pub inside-requires : goal.inside-requires
-inside-requires c = (ready_for _ _ c.in_ok-tested.ensures).promise
+inside-requires c = (ready_for _ _ c.in_ok-book_test.ensures).promise
 
 pub returns-in_err-inside : goal.returns-in_err-inside
 unfolding outside
 returns-in_err-inside c =
     let o = is_outside _ c.in_err-inside.ensures in
-    call_outside _ _ _ _ c.in_ok-tested.ensures o.0 (let e : c.from_residual-in_err-inside.result ≡ Err c.in_err-inside.field-0.0 = search rules in e ∙ ap Err o.1)
+    call_outside _ _ _ _ c.in_ok-book_test.ensures o.0 (let e : c.from_residual-in_err-inside.result ≡ Err c.in_err-inside.field-0.0 = search rules in e ∙ ap Err o.1)
 
 pub record_below-requires : goal.record_below-requires
-record_below-requires c = (ready_for _ _ c.in_ok-tested.ensures, inside_parent _ _ _ (is_inside _ c.in_ok-inside.ensures))
+record_below-requires c = (ready_for _ _ c.in_ok-book_test.ensures, inside_parent _ _ _ (is_inside _ c.in_ok-inside.ensures))
 
 pub returns : goal.returns
 unfolding outside
-returns c = call_good _ _ (record_term c.args.parent c.args.term c.args.typ (maybe_text c.args.trace)) _ c.in_ok-tested.ensures (is_inside _ c.in_ok-inside.ensures) (recorded _ _ _ _ _ _ c.record_below.ensures)
+returns c = call_good _ _ (record_term c.args.parent c.args.term c.args.typ (maybe_text c.args.trace)) _ c.in_ok-book_test.ensures (is_inside _ c.in_ok-inside.ensures) (recorded _ _ _ _ _ _ c.record_below.ensures)

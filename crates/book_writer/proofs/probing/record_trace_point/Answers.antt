@@ -11,19 +11,19 @@ use Rattle.book_writer.specs.Growths.{record_trace_point}
 use Rattle.book_writer.proofs.Probes.{pointed}
 use Rattle.book_writer.proofs.probing.record_trace_point.Goals as goal
 
-pub returns-in_err-tested : goal.returns-in_err-tested
-returns-in_err-tested c = call_refused _ _ _ _ c.in_err-tested.ensures (search rules)
+pub returns-in_err-book_test : goal.returns-in_err-book_test
+returns-in_err-book_test c = call_refused _ _ _ _ c.in_err-book_test.ensures (search rules)
 
 pub count-requires : goal.count-requires
-count-requires c = (omega arith, omega (arith, (ready_for _ _ c.in_ok-tested.ensures).promise.contexts_laid.contents))
+count-requires c = (omega arith, omega (arith, (ready_for _ _ c.in_ok-book_test.ensures).promise.contexts_laid.contents))
 
 pub returns-then-count-parent : goal.returns-then-count-parent
 unfolding outside
-returns-then-count-parent c = call_outside _ _ (record_trace_point c.args.parent c.args.trace.now) _ c.in_ok-tested.ensures (lt-ltb (size c.args.book.now contexts) c.args.parent (omega (arith, c.count.ensures.is, c.if-count-parent.true))) refl
+returns-then-count-parent c = call_outside _ _ (record_trace_point c.args.parent c.args.trace.now) _ c.in_ok-book_test.ensures (lt-ltb (size c.args.book.now contexts) c.args.parent (omega (arith, c.count.ensures.is, c.if-count-parent.true))) refl
 
 pub record_below-requires : goal.record_below-requires
-record_below-requires c = (ready_for _ _ c.in_ok-tested.ensures, omega (arith, c.count.ensures.is, c.if-count-parent.false))
+record_below-requires c = (ready_for _ _ c.in_ok-book_test.ensures, omega (arith, c.count.ensures.is, c.if-count-parent.false))
 
 pub returns : goal.returns
 unfolding outside
-returns c = call_good _ _ (record_trace_point c.args.parent c.args.trace.now) _ c.in_ok-tested.ensures (le-ltb (size c.args.book.now contexts) c.args.parent (omega (arith, c.count.ensures.is, c.if-count-parent.false))) (pointed _ _ _ c.args.trace c.record_below.ensures)
+returns c = call_good _ _ (record_trace_point c.args.parent c.args.trace.now) _ c.in_ok-book_test.ensures (le-ltb (size c.args.book.now contexts) c.args.parent (omega (arith, c.count.ensures.is, c.if-count-parent.false))) (pointed _ _ _ c.args.trace c.record_below.ensures)

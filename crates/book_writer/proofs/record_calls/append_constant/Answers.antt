@@ -9,15 +9,15 @@ use Rattle.book_writer.specs.Growths.{append_constant}
 use Rattle.book_writer.proofs.Additions.{whole_as, append_as, constant_added}
 use Rattle.book_writer.proofs.record_calls.append_constant.Goals as goal
 
-pub returns-in_err-tested : goal.returns-in_err-tested
-returns-in_err-tested c = call_refused _ _ _ _ c.in_err-tested.ensures (search rules)
+pub returns-in_err-book_test : goal.returns-in_err-book_test
+returns-in_err-book_test c = call_refused _ _ _ _ c.in_err-book_test.ensures (search rules)
 
 pub count-number-requires : goal.count-number-requires
-count-number-requires c = (omega arith, omega (arith, (ready_for _ _ c.in_ok-tested.ensures).promise.constants_laid.contents))
+count-number-requires c = (omega arith, omega (arith, (ready_for _ _ c.in_ok-book_test.ensures).promise.constants_laid.contents))
 
 pub append-requires : goal.append-requires
-append-requires c = (ready_for _ _ c.in_ok-tested.ensures, whole_as c.args.book.now (append_constant c.args.name c.args.typ) (constant_added _ _ _ c.row-constants.ensures))
+append-requires c = (ready_for _ _ c.in_ok-book_test.ensures, whole_as c.args.book.now (append_constant c.args.name c.args.typ) (constant_added _ _ _ c.row-constants.ensures))
 
 pub returns : goal.returns
 unfolding outside grow_below handed_right number_of
-returns c = call_good _ _ (append_constant c.args.name c.args.typ) _ c.in_ok-tested.ensures refl (append_as _ _ _ (constant_added _ _ _ c.row-constants.ensures) c.count-number.ensures.is c.append.ensures)
+returns c = call_good _ _ (append_constant c.args.name c.args.typ) _ c.in_ok-book_test.ensures refl (append_as _ _ _ (constant_added _ _ _ c.row-constants.ensures) c.count-number.ensures.is c.append.ensures)

@@ -9,18 +9,18 @@ use Rattle.book_writer.specs.Growths.{append_name}
 use Rattle.book_writer.proofs.Additions.{whole_as, append_as, name_added}
 use Rattle.book_writer.proofs.record_calls.append_name.Goals as goal
 
-pub returns-in_err-tested : goal.returns-in_err-tested
-returns-in_err-tested c = call_refused _ _ _ _ c.in_err-tested.ensures (search rules)
+pub returns-in_err-book_test : goal.returns-in_err-book_test
+returns-in_err-book_test c = call_refused _ _ _ _ c.in_err-book_test.ensures (search rules)
 
 pub count-requires : goal.count-requires
-count-requires c = (omega arith, omega (arith, (ready_for _ _ c.in_ok-tested.ensures).promise.letters_laid.contents))
+count-requires c = (omega arith, omega (arith, (ready_for _ _ c.in_ok-book_test.ensures).promise.letters_laid.contents))
 
 pub count-number-requires : goal.count-number-requires
-count-number-requires c = (omega arith, omega (arith, (ready_for _ _ c.in_ok-tested.ensures).promise.names_laid.contents))
+count-number-requires c = (omega arith, omega (arith, (ready_for _ _ c.in_ok-book_test.ensures).promise.names_laid.contents))
 
 pub append-requires : goal.append-requires
-append-requires c = (ready_for _ _ c.in_ok-tested.ensures, whole_as _ (append_name c.args.text.now) (name_added _ _ c.count.ensures.is c.name_row-names.ensures))
+append-requires c = (ready_for _ _ c.in_ok-book_test.ensures, whole_as _ (append_name c.args.text.now) (name_added _ _ c.count.ensures.is c.name_row-names.ensures))
 
 pub returns : goal.returns
 unfolding outside grow_below handed_right number_of
-returns c = call_good _ _ (append_name c.args.text.now) _ c.in_ok-tested.ensures refl (append_as _ _ _ (name_added _ _ c.count.ensures.is c.name_row-names.ensures) c.count-number.ensures.is c.append.ensures)
+returns c = call_good _ _ (append_name c.args.text.now) _ c.in_ok-book_test.ensures refl (append_as _ _ _ (name_added _ _ c.count.ensures.is c.name_row-names.ensures) c.count-number.ensures.is c.append.ensures)

@@ -12,17 +12,17 @@ use Rattle.book_writer.proofs.Fields.{listed_within}
 use Rattle.book_writer.proofs.Additions.{whole_as, append_as, right_as, term_added}
 use Rattle.book_writer.proofs.terms.append_term.Goals as goal
 
-pub returns-in_err-tested : goal.returns-in_err-tested
-returns-in_err-tested c = call_refused _ _ _ _ c.in_err-tested.ensures (search rules)
+pub returns-in_err-book_test : goal.returns-in_err-book_test
+returns-in_err-book_test c = call_refused _ _ _ _ c.in_err-book_test.ensures (search rules)
 
 pub count-requires : goal.count-requires
-count-requires c = (omega arith, omega (arith, (ready_for _ _ c.in_ok-tested.ensures).promise.lists_laid.contents))
+count-requires c = (omega arith, omega (arith, (ready_for _ _ c.in_ok-book_test.ensures).promise.lists_laid.contents))
 
 pub term_row-row-requires : goal.term_row-row-requires
-term_row-row-requires c = (omega (arith, c.count.ensures.is, (ready_for _ _ c.in_ok-tested.ensures).promise.lists_laid.few), omega (arith, c.well_formed))
+term_row-row-requires c = (omega (arith, c.count.ensures.is, (ready_for _ _ c.in_ok-book_test.ensures).promise.lists_laid.few), omega (arith, c.well_formed))
 
 pub count-number-requires : goal.count-number-requires
-count-number-requires c = (omega arith, omega (arith, (ready_for _ _ c.in_ok-tested.ensures).promise.terms_laid.contents))
+count-number-requires c = (omega arith, omega (arith, (ready_for _ _ c.in_ok-book_test.ensures).promise.terms_laid.contents))
 
 pub slice_bounds-more-end-2 : goal.slice_bounds-more-end-2
 slice_bounds-more-end-2 c = sym (length-take-le _ _ (listed_within _ _ c.listed-first_end.ensures))
@@ -31,8 +31,8 @@ pub slice_bounds-more-end-3 : goal.slice_bounds-more-end-3
 slice_bounds-more-end-3 c = sym (length-take-le _ _ (listed_within _ _ c.listed-second_end.ensures))
 
 pub append-requires : goal.append-requires
-append-requires c = (ready_for _ _ c.in_ok-tested.ensures, whole_as _ (append_term (fields_of c.args.term) c.args.first.now c.args.second.now) (term_added _ _ _ _ c.ranges_of-ranges.ensures c.count.ensures.is c.term_row-row.ensures c.listed-first_end.ensures c.listed-second_end.ensures))
+append-requires c = (ready_for _ _ c.in_ok-book_test.ensures, whole_as _ (append_term (fields_of c.args.term) c.args.first.now c.args.second.now) (term_added _ _ _ _ c.ranges_of-ranges.ensures c.count.ensures.is c.term_row-row.ensures c.listed-first_end.ensures c.listed-second_end.ensures))
 
 pub returns : goal.returns
 unfolding outside grow_below handed_right number_of
-returns c = call_good _ _ (append_term (fields_of c.args.term) c.args.first.now c.args.second.now) _ c.in_ok-tested.ensures refl (append_as _ _ _ (term_added _ _ _ _ c.ranges_of-ranges.ensures c.count.ensures.is c.term_row-row.ensures c.listed-first_end.ensures c.listed-second_end.ensures) c.count-number.ensures.is (right_as _ _ (fields_of c.args.term) _ _ _ _ c.ranges_of-ranges.ensures c.term_right-right.ensures c.append.ensures))
+returns c = call_good _ _ (append_term (fields_of c.args.term) c.args.first.now c.args.second.now) _ c.in_ok-book_test.ensures refl (append_as _ _ _ (term_added _ _ _ _ c.ranges_of-ranges.ensures c.count.ensures.is c.term_row-row.ensures c.listed-first_end.ensures c.listed-second_end.ensures) c.count-number.ensures.is (right_as _ _ (fields_of c.args.term) _ _ _ _ c.ranges_of-ranges.ensures c.term_right-right.ensures c.append.ensures))

@@ -5,25 +5,25 @@ use Rattle.solvers.proofs.NarrowImage.{length_narrow}
 use Rattle.narrow_sessions.specs.Turned.{narrowed_in}
 use Rattle.narrow_sessions.proofs.ForRoom.{room_fits}
 use Rattle.std.proofs.lemmas.Result.{err_from_is_err_and}
-use Rattle.solvers.proofs.Returned.{lets_good}
+use Rattle.solvers.proofs.Returned.{book_good}
 use Rattle.narrow_sessions.proofs.OnImages.{stopped, no_room, not_turned, turned, narrows}
 use Rattle.narrow_sessions.proofs.image_turns.narrow_image.Goals as goal
 
-pub returns-in_err-tested : goal.returns-in_err-tested
-returns-in_err-tested c =
+pub returns-in_err-book_test : goal.returns-in_err-book_test
+returns-in_err-book_test c =
     let p = err_from_is_err_and c.from_residual.result c.from_residual.ensures.1 in
-    rw (p.1, p.2) (stopped _ _ _ _ c.args.scratch.now c.args.narrow.now (narrows c.args.book.now c.args.scratch.now c.args.image.now c.args.narrow.now) c.tested.ensures c.in_err-tested.was)
+    rw (p.1, p.2) (stopped _ _ _ _ c.args.scratch.now c.args.narrow.now (narrows c.args.book.now c.args.scratch.now c.args.image.now c.args.narrow.now) c.book_test.ensures c.in_err-book_test.was)
 
 pub returns-then-narrow-ne-NARROW_IMAGE : goal.returns-then-narrow-ne-NARROW_IMAGE
-returns-then-narrow-ne-NARROW_IMAGE c = no_room _ _ _ _ c.args.scratch.now c.args.narrow.now (narrows c.args.book.now c.args.scratch.now c.args.image.now c.args.narrow.now) c.tested.ensures c.in_ok-tested.was (λ e. omega (arith, e, c.if-narrow-ne-NARROW_IMAGE.true))
+returns-then-narrow-ne-NARROW_IMAGE c = no_room _ _ _ _ c.args.scratch.now c.args.narrow.now (narrows c.args.book.now c.args.scratch.now c.args.image.now c.args.narrow.now) c.book_test.ensures c.in_ok-book_test.was (λ e. omega (arith, e, c.if-narrow-ne-NARROW_IMAGE.true))
 
 pub narrow_in-requires : goal.narrow_in-requires
-narrow_in-requires c = lets_good _ _ c.tested.ensures.0 c.in_ok-tested.was
+narrow_in-requires c = book_good _ _ c.book_test.ensures.0 c.in_ok-book_test.was
 
 pub returns-in_err-turned : goal.returns-in_err-turned
 returns-in_err-turned c =
     let p = err_from_is_err_and c.from_residual-in_err-turned.result c.from_residual-in_err-turned.ensures.1 in
-    rw (p.1, p.2) (not_turned _ _ _ _ c.args.scratch.now c.args.narrow.now (narrows c.args.book.now c.args.scratch.now c.args.image.now c.args.narrow.now) c.tested.ensures c.in_ok-tested.was (omega (arith, c.if-narrow-ne-NARROW_IMAGE.false)) (c.narrow_in.ensures ∙ ap (narrowed_in c.args.book.now) c.load.ensures) c.in_err-turned.was)
+    rw (p.1, p.2) (not_turned _ _ _ _ c.args.scratch.now c.args.narrow.now (narrows c.args.book.now c.args.scratch.now c.args.image.now c.args.narrow.now) c.book_test.ensures c.in_ok-book_test.was (omega (arith, c.if-narrow-ne-NARROW_IMAGE.false)) (c.narrow_in.ensures ∙ ap (narrowed_in c.args.book.now) c.load.ensures) c.in_err-turned.was)
 
 pub returns : goal.returns
-returns c = turned _ _ _ _ c.args.scratch.now c.args.narrow.now (narrows c.args.book.now c.args.scratch.now c.args.image.now c.args.narrow.now) c.tested.ensures c.in_ok-tested.was (omega (arith, c.if-narrow-ne-NARROW_IMAGE.false)) (c.narrow_in.ensures ∙ ap (narrowed_in c.args.book.now) c.load.ensures) c.in_ok-turned.was (length_narrow _ (search rules)) (c.save_narrow.ensures ∙ sym (room_fits _ _ _ _ (omega (arith, c.if-narrow-ne-NARROW_IMAGE.false)) refl))
+returns c = turned _ _ _ _ c.args.scratch.now c.args.narrow.now (narrows c.args.book.now c.args.scratch.now c.args.image.now c.args.narrow.now) c.book_test.ensures c.in_ok-book_test.was (omega (arith, c.if-narrow-ne-NARROW_IMAGE.false)) (c.narrow_in.ensures ∙ ap (narrowed_in c.args.book.now) c.load.ensures) c.in_ok-turned.was (length_narrow _ (search rules)) (c.save_narrow.ensures ∙ sym (room_fits _ _ _ _ (omega (arith, c.if-narrow-ne-NARROW_IMAGE.false)) refl))

@@ -8,22 +8,22 @@ use Rattle.printing.specs.Calls.{term_text}
 use Rattle.printing.proofs.terms.print.Goals as goal
 
 pub count-requires : goal.count-requires
-count-requires c = (omega arith, (book_good _ _ c.tested.ensures c.in_ok-tested.was).terms_laid.contents)
+count-requires c = (omega arith, (book_good _ _ c.book_test.ensures c.in_ok-book_test.was).terms_laid.contents)
 
 pub returns-then-count-t : goal.returns-then-count-t
 unfolding print_call print_text
 returns-then-count-t c =
-    let e = call_good _ _ c.tested.ensures c.in_ok-tested.was (answered_outside _ _ (le-leb (size c.args.book.now terms) c.args.t (omega (arith, c.count.ensures.is, c.if-count-t.true)))) in record { answer = e.0; text = e.1; scratch = e.2 }
+    let e = call_good _ _ c.book_test.ensures c.in_ok-book_test.was (answered_outside _ _ (le-leb (size c.args.book.now terms) c.args.t (omega (arith, c.count.ensures.is, c.if-count-t.true)))) in record { answer = e.0; text = e.1; scratch = e.2 }
 
 pub print_term-requires : goal.print_term-requires
-print_term-requires c = record { promise = book_good _ _ c.tested.ensures c.in_ok-tested.was; here = omega (arith, c.count.ensures.is, c.if-count-t.false) }
+print_term-requires c = record { promise = book_good _ _ c.book_test.ensures c.in_ok-book_test.was; here = omega (arith, c.count.ensures.is, c.if-count-t.false) }
 
-pub returns-in_err-tested : goal.returns-in_err-tested
+pub returns-in_err-book_test : goal.returns-in_err-book_test
 unfolding print_call print_text
-returns-in_err-tested c =
-    let e = call_refused _ _ c.tested.ensures _ _ _ c.in_err-tested.was c.from_residual.ensures.1 in record { answer = e.0; text = e.1; scratch = e.2 }
+returns-in_err-book_test c =
+    let e = call_refused _ _ c.book_test.ensures _ _ _ c.in_err-book_test.was c.from_residual.ensures.1 in record { answer = e.0; text = e.1; scratch = e.2 }
 
 pub returns : goal.returns
 unfolding print_call print_text term_text
 returns c =
-    let e = call_good _ _ c.tested.ensures c.in_ok-tested.was (answered_inside (lt-leb (size c.args.book.now terms) c.args.t (omega (arith, c.count.ensures.is, c.if-count-t.false))) c.print_term.ensures) in record { answer = e.0; text = e.1; scratch = e.2 }
+    let e = call_good _ _ c.book_test.ensures c.in_ok-book_test.was (answered_inside (lt-leb (size c.args.book.now terms) c.args.t (omega (arith, c.count.ensures.is, c.if-count-t.false))) c.print_term.ensures) in record { answer = e.0; text = e.1; scratch = e.2 }
