@@ -5,10 +5,6 @@ pub returns-in-Nothing : goal.returns-in-Nothing
 unfolding goal_fits
 returns-in-Nothing c = rw c.in-Nothing.is
 
-pub returns-in-Reply : goal.returns-in-Reply
+pub returns-in-Reply-Model : goal.returns-in-Reply-Model
 unfolding goal_fits
-returns-in-Reply c = rw c.in-Reply.is
-
-pub returns-in-Model : goal.returns-in-Model
-unfolding goal_fits
-returns-in-Model c = rw c.in-Model.is
+returns-in-Reply-Model c = ?
