@@ -1,3 +1,4 @@
+use Rattle.std.proofs.Common.{inl, inr}
 use Rattle.solvers.specs.Calls.{goal_fits}
 use Rattle.session_test.proofs.goal_fits.Goals as goal
 
@@ -5,6 +6,6 @@ pub returns-in-Nothing : goal.returns-in-Nothing
 unfolding goal_fits
 returns-in-Nothing c = rw c.in-Nothing.is
 
-pub returns-in-Reply-Model : goal.returns-in-Reply-Model
+pub returns-in-Reply : goal.returns-in-Reply
 unfolding goal_fits
-returns-in-Reply-Model c = ?
+returns-in-Reply c = elim c.in-Reply.is [ inl e ↦ rw e | inr e ↦ rw e ]
