@@ -1,12 +1,9 @@
 use Rattle.book.specs.Book.{depth_most}
-use Rattle.engine.proofs.Entering.{same_wide}
-use Rattle.basics.proofs.Places.{at_length}
 use mathlib.Core.Path.{◌≡◌}
 use lib.ListN.{length}
 use native.Mathlib.Omega.{arith}
-use Rattle.engine.proofs.Descending.{descending_start, next_above, descending_more, descending_done}
+use Rattle.engine.proofs.Descending.{descending_start, next_above, descending_more}
 use Rattle.engine.proofs.Entering.{depth_is}
-use Rattle.contexts.proofs.PathLines.{node_fits}
 use borrow.Author.Rules.{rules}
 use Rattle.engine.proofs.enter.descend.Goals as goal
 

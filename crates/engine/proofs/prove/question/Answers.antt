@@ -1,7 +1,6 @@
 use native.Mathlib.Omega.{arith}
 use Rattle.engine.proofs.Entering.{few_deep}
 use Rattle.engine.proofs.Asking.{questioned, levels_long}
-use mathlib.Core.Path.{◌∙◌}
 use Rattle.engine.proofs.prove.question.Goals as goal
 
 pub overflow_add-level : goal.overflow_add-level

@@ -1,11 +1,6 @@
-use mathlib.Core.List.{[]}
-use Rattle.book.specs.Book.{constants}
-use Prim.Native.Nat.{◌-◌}
 use native.Mathlib.Omega.{arith}
-use mathlib.Core.Path.{◌≡◌, refl, ◌∙◌}
-use Rattle.records.proofs.Readers.{reads_list, reads_term, reads_pattern, reads_function, reads_axiom}
-use Rattle.levels.proofs.Steps.{ready_next, did_length}
-use Rattle.excluded.proofs.Sets.{excludes_listed, listed}
+use mathlib.Core.Path.{refl, ◌∙◌}
+use Rattle.levels.proofs.Steps.{ready_next}
 use Rattle.book_test.proofs.TermKinds.{good_literal, good_id, good_built_in, good_application, good_if, good_let, good_quantifier, known}
 use Rattle.walk.proofs.Walks.{term_fewer, terms_fewer, patterns_fewer, operator_fewer, axioms_fewer, type_fewer, variables_fewer, function_fewer, walked_none, walked_literal, walked_id, walked_built_in, walked_application, walked_if, walked_let, walked_quantifier, terms_none, terms_more, patterns_none, patterns_more}
 use Rattle.walk.proofs.Axioms.{operator_old, operator_new, axioms_none, axioms_more, axiom_missing, axiom_old, axiom_early, axiom_sent, mark_fewer, sent_axiom}
@@ -26,8 +21,9 @@ walk_axiom-returns-then-all_explained t c = axiom_sent _ c.requires.1 c.field-co
 
 pub walk_axiom-returns-else-levels-k-eq0 : goal.walk_axiom-returns-else-levels-k-eq0
 walk_axiom-returns-else-levels-k-eq0 t c = elim c.else-levels-k-eq0.branch [
-  walk_axiom-else-levels-k-eq0-via-then-levels-k-eq0+else-all_explained w ↦ axiom_early _ c.requires.1 c.field-cond.ensures.is c.if-cond-eq-NO_TERM.false _ _ _ _ w.if-levels-k-eq0.true w.all_explained.ensures w.if-all_explained.false (omega (arith, c.well_formed.1.1.1.1.0))
-  | walk_axiom-else-levels-k-eq0-via-else-levels-k-eq0 w ↦ axiom_old _ c.requires.1 c.field-cond.ensures.is c.if-cond-eq-NO_TERM.false _ _ _ _ w.if-levels-k-eq0.false (omega (arith, c.well_formed.1.1.1.1.0)) ]
+  | walk_axiom-else-levels-k-eq0-via-then-levels-k-eq0+else-all_explained w ↦ axiom_early _ c.requires.1 c.field-cond.ensures.is c.if-cond-eq-NO_TERM.false _ _ _ _ w.if-levels-k-eq0.true w.all_explained.ensures w.if-all_explained.false (omega (arith, c.well_formed.1.1.1.1.0))
+  | walk_axiom-else-levels-k-eq0-via-else-levels-k-eq0 w ↦ axiom_old _ c.requires.1 c.field-cond.ensures.is c.if-cond-eq-NO_TERM.false _ _ _ _ w.if-levels-k-eq0.false (omega (arith, c.well_formed.1.1.1.1.0))
+]
 
 pub walk_axioms-loop-i-init : goal.walk_axioms-loop-i-init
 walk_axioms-loop-i-init t c = (axioms_none _ _ _ _ _ _ (omega (arith, c.well_formed.1.1.1.1.1.0)), refl)
