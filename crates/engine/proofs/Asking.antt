@@ -10,8 +10,8 @@ use Rattle.book.specs.Program.{path, depth}
 use Rattle.book.specs.Decode.{term, program}
 use Rattle.book_test.specs.Promise.{Promise}
 use Rattle.smt_engines.specs.Command.{Command, Push, AssumeNot, CheckSat, script}
-use Rattle.rsolver.specs.LevelState.{LevelState, level_state, levelled, level_count, push, send, count, sent_by}
-use Rattle.rsolver.specs.REngine.{assume_not, declare_new_symbols}
+use Rattle.rsolver.specs.LevelState.{LevelState, level_count, push, send, count, sent_by}
+use Rattle.rsolver.specs.REngine.{assume_not}
 use Rattle.levels.specs.declared.Progress.{Progress}
 use Rattle.walk.specs.Walk.{Stands, NewSymbols}
 use Rattle.solvers.specs.Rule.{standing, goal_state, goal_commands, denial_commands, question_commands}

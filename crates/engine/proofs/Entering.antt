@@ -1,7 +1,7 @@
 -- A node is entered: a push, its symbols, its assertion.
 use Prim.Native.Nat.{ℕ, zero, suc, ◌+◌, ◌-◌, ◌≤◌, ◌<◌}
 use native.Mathlib.Omega.{arith}
-use mathlib.Core.Path.{◌≡◌, refl, sym, ap, ◌∙◌}
+use mathlib.Core.Path.{◌≡◌, sym, ap, ◌∙◌}
 use mathlib.Core.Bool.{Bool}
 use mathlib.Core.List.{List, [], ◌∷◌, ◌++◌}
 use lib.ListN.{length, take, length-take}
@@ -27,7 +27,7 @@ use Rattle.solvers.specs.Rule.{standing, settle, node_commands}
 use Rattle.solvers.proofs.Good.{good}
 use Rattle.solvers.proofs.Standing.{standing_stack}
 use Rattle.solvers.proofs.Enough.{levels_length}
-use Rattle.engine.specs.Engine.{state_at, IsState, Above, Entered}
+use Rattle.engine.specs.Engine.{state_at, IsState, Entered}
 
 -- commands after commands
 pub said_then : (x y : List Command) {o o1 o2 : List ℕ} {n r1 r : ℕ} → length o < MOST + 1 → WroteAt (script x) n o o1 r1 → WroteAt (script y) r1 o1 o2 r → WroteAt (script (x ++ y)) n o o2 r

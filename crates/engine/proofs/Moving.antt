@@ -2,7 +2,7 @@
 use Prim.Native.Nat.{ℕ, zero, suc, ◌+◌, ◌-◌, ◌≤◌, ◌<◌}
 use native.Mathlib.Omega.{arith}
 use native.Mathlib.Numerals.{add-one}
-use mathlib.Core.Path.{◌≡◌, refl, sym, ap, ◌∙◌, subst}
+use mathlib.Core.Path.{◌≡◌, refl, sym, ap, ◌∙◌}
 use mathlib.Core.Bool.{false}
 use mathlib.Core.List.{List, [], ◌∷◌, ◌++◌, reverse}
 use lib.ListN.{length, replicate, take, drop}
@@ -14,7 +14,7 @@ use Rattle.book.specs.Decode.{program}
 use Rattle.book.proofs.Paths.{chain, shared_most, shared_suffix}
 use Rattle.book_test.specs.Promise.{Promise}
 use Rattle.contexts.specs.Path.{pops_of}
-use Rattle.smt_engines.specs.Command.{Command, Pop, script}
+use Rattle.smt_engines.specs.Command.{Pop, script}
 use Rattle.rsolver.specs.LevelState.{forget}
 use Rattle.levels.specs.declared.Progress.{Progress}
 use Rattle.solvers.specs.Rule.{standing, entering, move_commands}

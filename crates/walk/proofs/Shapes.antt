@@ -1,13 +1,12 @@
 -- What DeclareNewSymbols does to a term of each kind.
 use Prim.Native.Nat.{ℕ, suc, ◌+◌, ◌<◌}
-use native.Mathlib.Omega.{arith}
 use mathlib.Core.Path.{◌≡◌, refl}
 use mathlib.Core.List.{List, [], ◌∷◌, ◌++◌}
 use Rattle.book.specs.Book.{Book, constants, terms, lists, patterns, size, field, entries}
 use Rattle.book.specs.RExpr.{RExpr, RExprs}
 use Rattle.book.specs.Decode.{kind_of, to_rexprs, to_rpatterns, constant_of, args_of, pattern_of, term_by, term, program}
 use Rattle.book_test.specs.Promise.{Promise}
-use Rattle.book_test.proofs.TermKinds.{each_kind, known, shape}
+use Rattle.book_test.proofs.TermKinds.{shape}
 use Rattle.book_test.proofs.Entries.{entries_more}
 use Rattle.rsolver.specs.Step.{skip, ◌⨟◌}
 use Rattle.rsolver.specs.LevelState.{LevelState}
@@ -22,11 +21,6 @@ module _ {b : Book} (P : Promise b) {t : ℕ} (here : t < size b terms) {k : ℕ
   is = shape P here kind
 
   -- the kind behind all others
-  pub last_kind : 1 < k → (k ≡ 2 → ⊥) → (k ≡ 3 → ⊥) → (k ≡ 4 → ⊥) → (k ≡ 5 → ⊥) → (k ≡ 6 → ⊥) → (k ≡ 7 → ⊥) → k ≡ 8
-  last_kind m h2 h3 h4 h5 h6 h7 =
-      each_kind k (known P here kind) (λ e. absurd (omega arith)) (λ e. absurd (omega arith)) (λ e. absurd (h2 e)) (λ e. absurd (h3 e)) (λ e. absurd (h4 e)) (λ e. absurd (h5 e))
-      (λ e. absurd (h6 e)) (λ e. absurd (h7 e)) (λ e. e)
-
   -- ---- what is walked
   module _ (x : List ℕ) (s : LevelState) where
     pub of_boolean : k ≡ 0 → symbols_step b t x s ≡ skip s

@@ -67,7 +67,7 @@ fn walk_term(
             let more = exclude.with(v);
             walk_term(book, body, &more, level, levels, two, out)
         }
-        _ => {
+        QUANTIFIER_EXPR.. => {
             let one = declare_variables(book, t, level, levels, so, out);
             let more = exclude_variables(book, t, exclude);
             let start = field(book, TERMS, t, QUANTIFIER_PATTERNS);

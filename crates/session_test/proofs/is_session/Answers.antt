@@ -2,6 +2,7 @@ use native.Mathlib.Omega.{arith}
 use borrow.Author.Tests.{not-true, not-false}
 use Rattle.session_test.proofs.Tests.{no_node, no_goal, unreachable, levels_tell, standing_fresh}
 use Rattle.std.proofs.lemmas.Bool.{not_from_false, not_from_true}
+use mathlib.Core.Path.{◌∙◌}
 use Rattle.session_test.proofs.is_session.Goals as goal
 
 pub returns-then-count-node : goal.returns-then-count-node
@@ -13,8 +14,8 @@ returns-then-not-goal_fits c = no_goal _ c.requires _ c.count-2.ensures.is c.goa
 pub set_context-done-requires : goal.set_context-done-requires
 set_context-done-requires c = standing_fresh _ c.requires _ (omega (arith, c.count.ensures.is, c.if-count-node.false)) c.blank-levels.ensures
 
-pub returns-then-done : goal.returns-then-done
-returns-then-done c = unreachable _ c.requires _ c.set_context-done.ensures.state.missing c.if-done.true
+pub returns-else-not-done : goal.returns-else-not-done
+returns-else-not-done c = c.if-not-done.false ∙ unreachable _ c.requires _ c.set_context-done.ensures.state.missing (not-false _ c.if-not-done.false)
 
-pub returns : goal.returns
-returns c = levels_tell _ c.requires _ (omega (arith, c.count.ensures.is, c.if-count-node.false)) c.count-2.ensures.is c.goal_fits.ensures (not-false _ (not_from_true _ c.if-not-goal_fits.false)) c.set_context-done.ensures.state.missing c.if-done.false c.set_context-done.ensures.state.levels c.same_levels.ensures
+pub returns-then-not-done : goal.returns-then-not-done
+returns-then-not-done c = levels_tell _ c.requires _ (omega (arith, c.count.ensures.is, c.if-count-node.false)) c.count-2.ensures.is c.goal_fits.ensures (not-false _ (not_from_true _ c.if-not-goal_fits.false)) c.set_context-done.ensures.state.missing (not-true _ c.if-not-done.true) c.set_context-done.ensures.state.levels c.same.ensures

@@ -1,5 +1,4 @@
 use native.Mathlib.Omega.{arith}
-use mathlib.Core.Path.{◌≡◌}
 use Rattle.engine.proofs.Moving.{popping_none, popping_more}
 use Rattle.engine.proofs.context.pop_times.Goals as goal
 

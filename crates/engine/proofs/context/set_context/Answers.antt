@@ -1,5 +1,4 @@
 use mathlib.Core.Path.{refl}
-use Prim.Native.Nat.{◌-◌}
 use native.Mathlib.Omega.{arith}
 use Rattle.engine.proofs.Moving.{few_pops, few_kept, downward, reached}
 use Rattle.engine.proofs.context.set_context.Goals as goal

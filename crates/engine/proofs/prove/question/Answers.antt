@@ -1,7 +1,6 @@
 use native.Mathlib.Omega.{arith}
 use Rattle.engine.proofs.Entering.{few_deep}
 use Rattle.engine.proofs.Asking.{questioned, levels_long}
-use mathlib.Core.Path.{◌∙◌}
 use Rattle.engine.proofs.prove.question.Goals as goal
 
 pub overflow_add-level : goal.overflow_add-level
@@ -12,9 +11,6 @@ copy-inner-requires c = levels_long c.requires.promise _ c.set_context-moved.ens
 
 pub overflow_cast-level : goal.overflow_cast-level
 overflow_cast-level c = omega (arith, c.depth_of-level.ensures, few_deep c.requires.promise _ c.requires.to)
-
-pub ask_goal-requires : goal.ask_goal-requires
-ask_goal-requires c = record { promise = c.requires.promise; inside = c.requires.to; goal = c.requires.goal; level = omega (arith, c.depth_of-level.ensures, few_deep c.requires.promise _ c.requires.to); state = record { levels = c.copy-inner.ensures ∙ c.set_context-moved.ensures.state.levels; missing = c.set_context-moved.ensures.state.missing } }
 
 pub returns : goal.returns
 returns c = questioned _ _ _ c.well_formed.1.1.1.1.1.0.0 c.set_context-moved.ensures c.ask_goal.ensures

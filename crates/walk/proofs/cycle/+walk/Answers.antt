@@ -1,13 +1,7 @@
-use mathlib.Core.List.{[]}
-use Rattle.book.specs.Book.{constants}
-use Prim.Native.Nat.{◌-◌}
 use native.Mathlib.Omega.{arith}
-use mathlib.Core.Path.{◌≡◌, refl, ◌∙◌}
-use Rattle.records.proofs.Readers.{reads_list, reads_term, reads_pattern, reads_function, reads_axiom}
-use Rattle.levels.proofs.Steps.{ready_next, did_length}
-use Rattle.excluded.proofs.Sets.{excludes_listed, listed}
-use Rattle.book_test.proofs.TermKinds.{good_literal, good_id, good_built_in, good_application, good_if, good_let, good_quantifier}
-use Rattle.walk.proofs.Shapes.{last_kind}
+use mathlib.Core.Path.{refl, ◌∙◌}
+use Rattle.levels.proofs.Steps.{ready_next}
+use Rattle.book_test.proofs.TermKinds.{good_literal, good_id, good_built_in, good_application, good_if, good_let, good_quantifier, known}
 use Rattle.walk.proofs.Walks.{term_fewer, terms_fewer, patterns_fewer, operator_fewer, axioms_fewer, type_fewer, variables_fewer, function_fewer, walked_none, walked_literal, walked_id, walked_built_in, walked_application, walked_if, walked_let, walked_quantifier, terms_none, terms_more, patterns_none, patterns_more}
 use Rattle.walk.proofs.Axioms.{operator_old, operator_new, axioms_none, axioms_more, axiom_missing, axiom_old, axiom_early, axiom_sent, mark_fewer, sent_axiom}
 use Rattle.walk.proofs.cycle.+walk.Goals as goal
@@ -27,8 +21,9 @@ walk_axiom-returns-then-all_explained t c = axiom_sent _ c.requires.1 c.field-co
 
 pub walk_axiom-returns-else-levels-k-eq0 : goal.walk_axiom-returns-else-levels-k-eq0
 walk_axiom-returns-else-levels-k-eq0 t c = elim c.else-levels-k-eq0.branch [
-  walk_axiom-else-levels-k-eq0-via-then-levels-k-eq0+else-all_explained w ↦ axiom_early _ c.requires.1 c.field-cond.ensures.is c.if-cond-eq-NO_TERM.false _ _ _ _ w.if-levels-k-eq0.true w.all_explained.ensures w.if-all_explained.false (omega (arith, c.well_formed.1.1.1.1.0))
-  | walk_axiom-else-levels-k-eq0-via-else-levels-k-eq0 w ↦ axiom_old _ c.requires.1 c.field-cond.ensures.is c.if-cond-eq-NO_TERM.false _ _ _ _ w.if-levels-k-eq0.false (omega (arith, c.well_formed.1.1.1.1.0)) ]
+  | walk_axiom-else-levels-k-eq0-via-then-levels-k-eq0+else-all_explained w ↦ axiom_early _ c.requires.1 c.field-cond.ensures.is c.if-cond-eq-NO_TERM.false _ _ _ _ w.if-levels-k-eq0.true w.all_explained.ensures w.if-all_explained.false (omega (arith, c.well_formed.1.1.1.1.0))
+  | walk_axiom-else-levels-k-eq0-via-else-levels-k-eq0 w ↦ axiom_old _ c.requires.1 c.field-cond.ensures.is c.if-cond-eq-NO_TERM.false _ _ _ _ w.if-levels-k-eq0.false (omega (arith, c.well_formed.1.1.1.1.0))
+]
 
 pub walk_axioms-loop-i-init : goal.walk_axioms-loop-i-init
 walk_axioms-loop-i-init t c = (axioms_none _ _ _ _ _ _ (omega (arith, c.well_formed.1.1.1.1.1.0)), refl)
@@ -94,16 +89,16 @@ pub walk_term-walk_term-requires-in-7 : goal.walk_term-walk_term-requires-in-7
 walk_term-walk_term-requires-in-7 t c = (omega (arith, c.decreases, c.field-body.ensures.is, (good_let c.requires.0.promise c.requires.1 c.field.ensures.is c.in-7.is).body, type_fewer c.requires.0 _ c.declare_type_of-one.ensures, term_fewer (ready_next c.requires.0 c.declare_type_of-one.auto.levels) _ c.args.exclude.now.long c.walk_term-two-in-7.ensures), (ready_next c.requires.0 (c.walk_term-two-in-7.auto.levels ∙ c.declare_type_of-one.auto.levels), omega (arith, c.field-body.ensures.is, (good_let c.requires.0.promise c.requires.1 c.field.ensures.is c.in-7.is).body, c.requires.1)))
 
 pub walk_term-declare_variables-one-requires : goal.walk_term-declare_variables-one-requires
-walk_term-declare_variables-one-requires t c = (c.requires.0, c.requires.1, (good_quantifier c.requires.0.promise c.requires.1 c.field.ensures.is (last_kind c.requires.0.promise c.requires.1 c.field.ensures.is (omega (arith, c.in_default.if-this-lt2-own.false)) c.in_default.in_default-own.rest.0.0.0.0.0.1 c.in_default.in_default-own.rest.0.0.0.0.1 c.in_default.in_default-own.rest.0.0.0.1 c.in_default.in_default-own.rest.0.0.1 c.in_default.in_default-own.rest.0.1 c.in_default.in_default-own.rest.1)))
+walk_term-declare_variables-one-requires t c = (c.requires.0, c.requires.1, (good_quantifier c.requires.0.promise c.requires.1 c.field.ensures.is (omega (arith, known c.requires.0.promise c.requires.1 c.field.ensures.is))))
 
 pub walk_term-exclude_variables-more-requires : goal.walk_term-exclude_variables-more-requires
-walk_term-exclude_variables-more-requires t c = (c.requires.0.promise, c.requires.1, (good_quantifier c.requires.0.promise c.requires.1 c.field.ensures.is (last_kind c.requires.0.promise c.requires.1 c.field.ensures.is (omega (arith, c.in_default.if-this-lt2-own.false)) c.in_default.in_default-own.rest.0.0.0.0.0.1 c.in_default.in_default-own.rest.0.0.0.0.1 c.in_default.in_default-own.rest.0.0.0.1 c.in_default.in_default-own.rest.0.0.1 c.in_default.in_default-own.rest.0.1 c.in_default.in_default-own.rest.1)))
+walk_term-exclude_variables-more-requires t c = (c.requires.0.promise, c.requires.1, (good_quantifier c.requires.0.promise c.requires.1 c.field.ensures.is (omega (arith, known c.requires.0.promise c.requires.1 c.field.ensures.is))))
 
 pub walk_term-walk_patterns-two-requires : goal.walk_term-walk_patterns-two-requires
-walk_term-walk_patterns-two-requires t c = (omega (arith, c.decreases, variables_fewer c.requires.0 _ _ c.declare_variables-one.ensures), (ready_next c.requires.0 c.declare_variables-one.auto.levels, c.requires.1, rw (c.field-start-in_default.ensures.is, c.field-count-in_default.ensures.is) (good_quantifier c.requires.0.promise c.requires.1 c.field.ensures.is (last_kind c.requires.0.promise c.requires.1 c.field.ensures.is (omega (arith, c.in_default.if-this-lt2-own.false)) c.in_default.in_default-own.rest.0.0.0.0.0.1 c.in_default.in_default-own.rest.0.0.0.0.1 c.in_default.in_default-own.rest.0.0.0.1 c.in_default.in_default-own.rest.0.0.1 c.in_default.in_default-own.rest.0.1 c.in_default.in_default-own.rest.1)).patterns))
+walk_term-walk_patterns-two-requires t c = (omega (arith, c.decreases, variables_fewer c.requires.0 _ _ c.declare_variables-one.ensures), (ready_next c.requires.0 c.declare_variables-one.auto.levels, c.requires.1, rw (c.field-start-in-8-to-max.ensures.is, c.field-count-in-8-to-max.ensures.is) (good_quantifier c.requires.0.promise c.requires.1 c.field.ensures.is (omega (arith, known c.requires.0.promise c.requires.1 c.field.ensures.is))).patterns))
 
-pub walk_term-walk_term-requires-in_default : goal.walk_term-walk_term-requires-in_default
-walk_term-walk_term-requires-in_default t c = (omega (arith, c.decreases, c.field-body-in_default.ensures.is, (good_quantifier c.requires.0.promise c.requires.1 c.field.ensures.is (last_kind c.requires.0.promise c.requires.1 c.field.ensures.is (omega (arith, c.in_default.if-this-lt2-own.false)) c.in_default.in_default-own.rest.0.0.0.0.0.1 c.in_default.in_default-own.rest.0.0.0.0.1 c.in_default.in_default-own.rest.0.0.0.1 c.in_default.in_default-own.rest.0.0.1 c.in_default.in_default-own.rest.0.1 c.in_default.in_default-own.rest.1)).body, variables_fewer c.requires.0 _ _ c.declare_variables-one.ensures, patterns_fewer (ready_next c.requires.0 c.declare_variables-one.auto.levels) _ _ c.exclude_variables-more.result.long c.walk_patterns-two.ensures), (ready_next c.requires.0 (c.walk_patterns-two.auto.levels ∙ c.declare_variables-one.auto.levels), omega (arith, c.field-body-in_default.ensures.is, (good_quantifier c.requires.0.promise c.requires.1 c.field.ensures.is (last_kind c.requires.0.promise c.requires.1 c.field.ensures.is (omega (arith, c.in_default.if-this-lt2-own.false)) c.in_default.in_default-own.rest.0.0.0.0.0.1 c.in_default.in_default-own.rest.0.0.0.0.1 c.in_default.in_default-own.rest.0.0.0.1 c.in_default.in_default-own.rest.0.0.1 c.in_default.in_default-own.rest.0.1 c.in_default.in_default-own.rest.1)).body, c.requires.1)))
+pub walk_term-walk_term-requires-in-8-to-max : goal.walk_term-walk_term-requires-in-8-to-max
+walk_term-walk_term-requires-in-8-to-max t c = (omega (arith, c.decreases, c.field-body-in-8-to-max.ensures.is, (good_quantifier c.requires.0.promise c.requires.1 c.field.ensures.is (omega (arith, known c.requires.0.promise c.requires.1 c.field.ensures.is))).body, variables_fewer c.requires.0 _ _ c.declare_variables-one.ensures, patterns_fewer (ready_next c.requires.0 c.declare_variables-one.auto.levels) _ _ c.exclude_variables-more.result.long c.walk_patterns-two.ensures), (ready_next c.requires.0 (c.walk_patterns-two.auto.levels ∙ c.declare_variables-one.auto.levels), omega (arith, c.field-body-in-8-to-max.ensures.is, (good_quantifier c.requires.0.promise c.requires.1 c.field.ensures.is (omega (arith, known c.requires.0.promise c.requires.1 c.field.ensures.is))).body, c.requires.1)))
 
 pub walk_term-returns-in-2 : goal.walk_term-returns-in-2
 walk_term-returns-in-2 t c = walked_literal c.requires.0.promise c.requires.1 c.field.ensures.is c.in-2.is c.declare_literal.ensures
@@ -126,8 +121,8 @@ walk_term-returns-in-7 t c = walked_let c.requires.0.promise c.requires.1 c.fiel
 pub walk_term-returns-in-0-to-1 : goal.walk_term-returns-in-0-to-1
 walk_term-returns-in-0-to-1 t c = walked_none c.requires.0.promise c.requires.1 c.field.ensures.is (omega arith) _ _ _ _ _ (omega (arith, c.well_formed.1.1.1.1.1.0))
 
-pub walk_term-returns-in_default : goal.walk_term-returns-in_default
-walk_term-returns-in_default t c = walked_quantifier c.requires.0.promise c.requires.1 c.field.ensures.is c.well_formed.1.1.1.1.1.1.0.0 (last_kind c.requires.0.promise c.requires.1 c.field.ensures.is (omega (arith, c.in_default.if-this-lt2-own.false)) c.in_default.in_default-own.rest.0.0.0.0.0.1 c.in_default.in_default-own.rest.0.0.0.0.1 c.in_default.in_default-own.rest.0.0.0.1 c.in_default.in_default-own.rest.0.0.1 c.in_default.in_default-own.rest.0.1 c.in_default.in_default-own.rest.1) c.field-start-in_default.ensures.is c.field-count-in_default.ensures.is c.field-body-in_default.ensures.is c.declare_variables-one.ensures c.exclude_variables-more.ensures c.walk_patterns-two.ensures c.walk_term-in_default.ensures
+pub walk_term-returns-in-8-to-max : goal.walk_term-returns-in-8-to-max
+walk_term-returns-in-8-to-max t c = walked_quantifier c.requires.0.promise c.requires.1 c.field.ensures.is c.well_formed.1.1.1.1.1.1.0.0 (omega (arith, known c.requires.0.promise c.requires.1 c.field.ensures.is)) c.field-start-in-8-to-max.ensures.is c.field-count-in-8-to-max.ensures.is c.field-body-in-8-to-max.ensures.is c.declare_variables-one.ensures c.exclude_variables-more.ensures c.walk_patterns-two.ensures c.walk_term-in-8-to-max.ensures
 
 pub walk_terms-loop-i-init : goal.walk_terms-loop-i-init
 walk_terms-loop-i-init t c = (terms_none _ _ _ _ _ _ _ (omega (arith, c.well_formed.1.1.1.1.1.1.1.0)), refl)

@@ -1,7 +1,4 @@
-use mathlib.Core.Bool.{true}
-use Prim.Native.Nat.{◌-◌}
 use native.Mathlib.Omega.{arith}
-use Rattle.records.proofs.Readers.{reads_axiom, reads_list}
 use Rattle.walk.proofs.Explaining.{explained_none, explained_more, explained_stop, explained_all}
 use Rattle.walk.proofs.leaves.all_explained.Goals as goal
 

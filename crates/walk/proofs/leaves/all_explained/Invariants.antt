@@ -1,5 +1,4 @@
 use mathlib.Core.Bool.{true}
-use Prim.Native.Nat.{◌≤◌, ◌-◌}
 use mathlib.Core.Path.{◌≡◌}
 use Rattle.walk.proofs.Explaining.{Explained}
 use Rattle.walk.proofs.leaves.all_explained.Given as goal
