@@ -21,33 +21,20 @@ module _ (b : Book) where
   name_is t e f = rw (e, f)
 
   -- ---- the text of a type
-  pub string_bool : {k : ℕ} → k ≡ 0 → ascii "bool" ≡ type_to_string (type_of b k)
+  pub string_bool : {k : ℕ} → 0 ≡ k → ascii "bool" ≡ type_to_string (type_of b k)
   unfolding type_of type_to_string
-  string_bool e = rw e
+  string_bool e = rw (← e)
 
-  pub string_int : {k : ℕ} → k ≡ 1 → ascii "int" ≡ type_to_string (type_of b k)
+  pub string_int : {k : ℕ} → 1 ≡ k → ascii "int" ≡ type_to_string (type_of b k)
   unfolding type_of type_to_string
-  string_int e = rw e
+  string_int e = rw (← e)
 
-  pub string_user : (k : ℕ) → (k ≡ 0 → ⊥) → (k ≡ 1 → ⊥) → name_text b (field b types (k - 2) 0) ≡ type_to_string (type_of b k)
+  pub string_user : (n : ℕ) {k : ℕ} → suc (suc n) ≡ k → name_text b (field b types n 0) ≡ type_to_string (type_of b k)
   unfolding type_of type_to_string
-  string_user zero h k = absurd (h refl)
-  string_user (suc zero) h k = absurd (k refl)
-  string_user (suc (suc n)) h k = let e : suc (suc n) - 2 ≡ n = omega arith in rw e
+  string_user n e = rw (← e)
 
-  pub user_type : {k : ℕ} → k < 2 + size b types → (k ≡ 0 → ⊥) → (k ≡ 1 → ⊥) → k - 2 < size b types
-  user_type g z o = omega (arith, g, z, o)
-
-  -- ---- names with the types' numbers
-  pub name_bool : (t : ℕ) {s : Text} {k : ℕ} → s ≡ name_text b (field b terms t 1) → k ≡ field b terms t 2 → k ≡ 0 → barred s (ascii "bool") ≡ literal_name (literal_of b t)
-  name_bool t e f z = name_is t e (string_bool (sym f ∙ z))
-
-  pub name_int : (t : ℕ) {s : Text} {k : ℕ} → s ≡ name_text b (field b terms t 1) → k ≡ field b terms t 2 → k ≡ 1 → barred s (ascii "int") ≡ literal_name (literal_of b t)
-  name_int t e f z = name_is t e (string_int (sym f ∙ z))
-
-  pub name_user : (t : ℕ) {s typ : Text} {k : ℕ} → s ≡ name_text b (field b terms t 1) → k ≡ field b terms t 2 → (k ≡ 0 → ⊥) → (k ≡ 1 → ⊥) → typ ≡ name_text b (field b types (k - 2) 0)
-      → barred s typ ≡ literal_name (literal_of b t)
-  name_user t {k = k} e f z o q = name_is t e (q ∙ string_user k z o ∙ ap (λ (j : ℕ). type_to_string (type_of b j)) f)
+  pub user_type : {n k : ℕ} → k < 2 + size b types → suc (suc n) ≡ k → n < size b types
+  user_type g e = omega (arith, g, e)
 
   -- ---- names and their records
   pub reads_record : Promise b → {n : ℕ} (i : ℕ) → i < 2 → n < size b names → (1 < 10) × Holds b (section_at 1) n i
@@ -57,9 +44,9 @@ module _ (b : Book) where
   unfolding name_text
   one_place n m e f = rw (e, f)
 
-  pub user_length : Promise b → (k : ℕ) {n r : ℕ} → k < 2 + size b types → (k ≡ 0 → ⊥) → (k ≡ 1 → ⊥) → n ≡ field b types (k - 2) 0 → r ≡ field b names n 1 → r ≡ length (type_to_string (type_of b k))
-  user_length P k g z o e f =
-      f ∙ ap (λ (j : ℕ). field b names j 1) e ∙ sym (name-length b P _ (P.type_name (k - 2) (user_type g z o))) ∙ ap length (string_user k z o)
+  pub user_length : Promise b → (k : ℕ) {j n r : ℕ} → j < 2 + size b types → suc (suc k) ≡ j → n ≡ field b types k 0 → r ≡ field b names n 1 → r ≡ length (type_to_string (type_of b j))
+  user_length P k g t e f =
+      f ∙ ap (λ (j : ℕ). field b names j 1) e ∙ sym (name-length b P _ (P.type_name k (user_type g t))) ∙ ap length (string_user k t)
 
   pub lengths : Promise b → (k : ℕ) {n x y z : ℕ} → GoodLiteral b k → n ≡ field b terms k 1 → x ≡ field b names n 1 → y ≡ field b terms k 2 → z ≡ length (type_to_string (type_of b y))
       → x + z ≡ length (name_text b (field b terms k 1)) + length (type_to_string (type_of b (field b terms k 2)))

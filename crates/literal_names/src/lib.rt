@@ -2,7 +2,7 @@
 // Literals are told apart by their whole names, |s:type|, as texts: whether a term is a literal of a given name.
 mod names;
 
-pub use names::agrees;
+pub use names::{agrees, type_text};
 
 // What is looked for: the numbers of a literal's name and of its type.
 #[derive(Clone, Copy)]

@@ -12,7 +12,7 @@ ghost use Rattle.literal_names.specs.Names.{barred, Seeks};
 use super::Sought;
 use basics::same;
 use book::format::*;
-use book::{field, name};
+use book::{SType, field, name};
 use records::named;
 
 const COLON: u8 = b':';
@@ -63,23 +63,26 @@ fn same_pair(s: &[u8], typ: &[u8], s2: &[u8], typ2: &[u8]) -> bool
     same(typ, typ2)
 }
 
+// The text of type typ.
+pub fn type_text(book: &[u8], typ: usize) -> &[u8]
+    requires { Promise book.now × (typ < user_types + size book.now types) }
+    ensures { result.now ≡ type_to_string (type_of book.now typ) }
+{
+    match SType::from(typ) {
+        SType::Bool => b"bool",
+        SType::Int => b"int",
+        SType::User(k) => named(book, TYPES, k, TYPE_NAME),
+    }
+}
+
 // The literal that term k is has this name.
 fn has_name(book: &[u8], k: usize, s: &[u8], typ: &[u8]) -> bool
     requires { Promise book.now × (k < size book.now terms) × GoodLiteral book.now k }
     ensures { result ≡ same (barred s.now typ.now) (literal_name (literal_of book.now k)) }
 {
     let other = named(book, TERMS, k, LITERAL_NAME);
-    let other_type = field(book, TERMS, k, LITERAL_TYPE);
-    match other_type {
-        BOOL => same_pair(s, typ, other, b"bool"),
-        INT => same_pair(s, typ, other, b"int"),
-        USER_TYPES.. => same_pair(
-            s,
-            typ,
-            other,
-            named(book, TYPES, other_type - USER_TYPES, TYPE_NAME),
-        ),
-    }
+    let other_type = type_text(book, field(book, TERMS, k, LITERAL_TYPE));
+    same_pair(s, typ, other, other_type)
 }
 
 // The text s, which is name n's, is name m's too. Names that stand at one place are the same without a look at their letters.
@@ -101,15 +104,10 @@ fn type_length(book: &[u8], typ: usize) -> usize
     requires { Promise book.now × (typ < user_types + size book.now types) }
     ensures { Reads (length (type_to_string (type_of book.now typ))) result }
 {
-    match typ {
-        BOOL => BOOL_LENGTH,
-        INT => INT_LENGTH,
-        USER_TYPES.. => field(
-            book,
-            NAMES,
-            field(book, TYPES, typ - USER_TYPES, TYPE_NAME),
-            NAME_LENGTH,
-        ),
+    match SType::from(typ) {
+        SType::Bool => BOOL_LENGTH,
+        SType::Int => INT_LENGTH,
+        SType::User(k) => field(book, NAMES, field(book, TYPES, k, TYPE_NAME), NAME_LENGTH),
     }
 }
 

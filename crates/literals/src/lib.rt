@@ -1,12 +1,11 @@
 #![tactic(auto)]
 // Declares literals. One whose whole name is declared already is not declared again.
-ghost use Rattle.std.specs.Prelude.{◌≡◌, ◌+◌, ◌<◌, length, drop};
-ghost use Rattle.book.specs.Book.{types, terms, size, user_types};
-ghost use Rattle.book.specs.Decode.{type_of, literal_of, program};
+ghost use Rattle.std.specs.Prelude.{◌≡◌, ◌<◌, length, drop};
+ghost use Rattle.book.specs.Book.{terms, size};
+ghost use Rattle.book.specs.Decode.{literal_of, program};
 ghost use Rattle.book.specs.RExpr.{is_tag};
 ghost use Rattle.book_test.specs.Promise.{Promise, GoodLiteral};
 ghost use Rattle.solver_expr.specs.Lowering.{literal_name};
-ghost use Rattle.solver_expr.specs.SolverExpr.{type_to_string};
 ghost use Rattle.rsolver.specs.LevelState.{literal_places, level_count, name_in};
 ghost use Rattle.levels.specs.Did.{Ready, Did};
 ghost use Rattle.literal_names.specs.Names.{barred, Seeks};
@@ -17,7 +16,7 @@ use book::field;
 use book::format::*;
 use finding::find_literal;
 use levels::{LITERAL_PLACES, Level, Progress, declare_new_types, mark};
-use literal_names::Sought;
+use literal_names::{Sought, type_text};
 use records::named;
 
 mod finding;
@@ -35,18 +34,6 @@ fn is_declared(book: &[u8], sought: Sought, s: &[u8], typ: &[u8], levels: &[Leve
     ensures { result ≡ name_in (barred s.now typ.now) (program book.now).literals (drop literal_places levels.now) }
 {
     find_literal(book, sought, s, typ, levels).found.is_some()
-}
-
-// The text of type typ.
-fn type_text(book: &[u8], typ: usize) -> &[u8]
-    requires { Promise book.now × (typ < user_types + size book.now types) }
-    ensures { result.now ≡ type_to_string (type_of book.now typ) }
-{
-    match typ {
-        BOOL => b"bool",
-        INT => b"int",
-        USER_TYPES.. => named(book, TYPES, typ - USER_TYPES, TYPE_NAME),
-    }
 }
 
 // The name of the literal that term t is, is declared.
