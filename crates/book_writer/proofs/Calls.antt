@@ -41,9 +41,9 @@ unfolding grow_in refuse ◌>>◌ number
 stops b g room h = rw h
 
 module _ (b : Book) (s : List ℕ) {s1 : List ℕ} where
-  scratch_left : {r : Result (Unit {0}) Refusal} → Tried b s r s1 → s1 ≡ scratch_after s
+  scratch_left : s1 ≡ (book_test_call b s).scratch → s1 ≡ scratch_after s
   unfolding book_test_call
-  scratch_left T = T.1
+  scratch_left e = e
 
   passed : Tried b s (Ok tt) s1 → ready (length s) b ≡ accepted tt
   unfolding book_test_call tested_value
@@ -52,17 +52,17 @@ module _ (b : Book) (s : List ℕ) {s1 : List ℕ} where
   pub ready_for : Tried b s (Ok tt) s1 → Ready b s1
   ready_for T =
       let r = ready_passed (length s) b (passed T) in
-      record { tested = r.1; promise = promise b r.1; spare = rw (scratch_left T) (spare s r.0) }
+      record { tested = r.1; promise = promise b r.1; spare = rw (scratch_left T.1) (spare s r.0) }
 
   pub call_refused : (g : Growth) (t : List ℕ) {why : Refusal} {r : Answer} → Tried b s (Err why) s1 → r ≡ Err why → Returned (grow_call b (lent g s t)) r t s1
   unfolding book_test_call tested_value grow_call grown_left outcome_of appended_value map_outcome buffer_after ◌>>◌
   call_refused g t {why} T e =
       let stopped : ready (length s) b ≡ refused (number why) = sym T.0 in
-      rw (e, by_steps (length s) b g (length t), stopped) (record { answer = refl; buffer' = refl; scratch'' = scratch_left T })
+      rw (e, by_steps (length s) b g (length t), stopped) (record { answer = refl; buffer' = refl; scratch'' = scratch_left T.1 })
 
   call_in : (g : Growth) (t : List ℕ) {r : Answer} {t1 s2 : List ℕ} → Tried b s (Ok tt) s1 → Appends (grow_in b g (length t)) r t t1 s1 s2 → Returned (grow_call b (lent g s t)) r t1 s2
   unfolding grow_call grown_left outcome_of ◌>>◌
-  call_in g t T a = rw (by_steps (length s) b g (length t), passed T) (record { answer = a.copied.answer; buffer' = a.copied.buffer; scratch'' = a.scratch ∙ scratch_left T })
+  call_in g t T a = rw (by_steps (length s) b g (length t), passed T) (record { answer = a.copied.answer; buffer' = a.copied.buffer; scratch'' = a.scratch ∙ scratch_left T.1 })
 
   pub call_outside : (g : Growth) (t : List ℕ) {r : Answer} → Tried b s (Ok tt) s1 → outside b g ≡ true → r ≡ Err NotInBook → Returned (grow_call b (lent g s t)) r t s1
   call_outside g t T h e = call_in g t T (rw e (refused_with NotInBook t s1 (stops b g (length t) h)))
