@@ -45,28 +45,20 @@ module _ {s u : Text} {r : Bool} (e : s ≡ u) (h : r ≡ eqb (length s) 0) wher
 -- Types inside literals.
 
 module _ (b : Book) where
-  pub type_bool : {k : ℕ} → k ≡ 0 → ascii "bool" ≡ type_to_string (type_of b k)
+  pub type_bool : {k : ℕ} → 0 ≡ k → ascii "bool" ≡ type_to_string (type_of b k)
   unfolding type_of type_to_string
-  type_bool e = rw e
+  type_bool e = rw (← e)
 
-  pub type-int : {k : ℕ} → k ≡ 1 → ascii "int" ≡ type_to_string (type_of b k)
+  pub type-int : {k : ℕ} → 1 ≡ k → ascii "int" ≡ type_to_string (type_of b k)
   unfolding type_of type_to_string
-  type-int e = rw e
+  type-int e = rw (← e)
 
-  pub user_ready : (k : ℕ) {x : ℕ} → ReadyType b k → (k ≡ 0 → ⊥) → (k ≡ 1 → ⊥) → x ≡ field b types (k - 2) 0 → Ready b names x
-  user_ready zero r n m e = absurd (n refl)
-  user_ready (suc zero) r n m e = absurd (m refl)
-  user_ready (suc (suc k)) r n m e =
-      let j : suc (suc k) - 2 ≡ k = omega arith in
-      record { promise = r.promise; here = rw (e, j) (r.promise.type_name k (omega (arith, r.here))) }
+  pub user_ready : (n : ℕ) {k x : ℕ} → ReadyType b k → suc (suc n) ≡ k → x ≡ field b types n 0 → Ready b names x
+  user_ready n r t e = record { promise = r.promise; here = rw e (r.promise.type_name n (omega (arith, t, r.here))) }
 
-  pub type_user : (k : ℕ) {x : ℕ} {s : Text} → (k ≡ 0 → ⊥) → (k ≡ 1 → ⊥) → x ≡ field b types (k - 2) 0 → s ≡ name_text b x → s ≡ type_to_string (type_of b k)
+  pub type_user : (n : ℕ) {k x : ℕ} {s : Text} → suc (suc n) ≡ k → x ≡ field b types n 0 → s ≡ name_text b x → s ≡ type_to_string (type_of b k)
   unfolding type_of type_to_string
-  type_user zero n m e h = absurd (n refl)
-  type_user (suc zero) n m e h = absurd (m refl)
-  type_user (suc (suc k)) n m e h =
-      let j : suc (suc k) - 2 ≡ k = omega arith in
-      h ∙ rw (e, j)
+  type_user n t e h = h ∙ rw (e, ← t)
 
   -- |s:type|
   pub literal_text : (t : ℕ) {n k : ℕ} → n ≡ field b terms t 1 → k ≡ field b terms t 2

@@ -12,8 +12,8 @@ ghost use Rattle.solver_expr.specs.Values.{Ready, ReadyType, ReadyLiteral, text_
 ghost use Rattle.sexpr_names.specs.Names.{ReadyName};
 
 use basics::{clip, put, put_all, put_u64, sum};
-use book::field;
 use book::format::*;
+use book::{SType, field};
 use solver_expr::SName;
 
 // Name n of a built-in operator where S(name) is printed: an empty one is ().
@@ -41,13 +41,10 @@ pub fn put_type(book: &[u8], k: usize, out: &mut [u8]) -> usize
     requires { ReadyType book.now k }
     ensures { Wrote (type_to_string (type_of book.now k)) out.old out.new result }
 {
-    match k {
-        BOOL => put_all(b"bool", out),
-        INT => put_all(b"int", out),
-        USER_TYPES.. => put_all(
-            book::name(book, field(book, TYPES, k - USER_TYPES, TYPE_NAME)),
-            out,
-        ),
+    match SType::from(k) {
+        SType::Bool => put_all(b"bool", out),
+        SType::Int => put_all(b"int", out),
+        SType::User(n) => put_all(book::name(book, field(book, TYPES, n, TYPE_NAME)), out),
     }
 }
 

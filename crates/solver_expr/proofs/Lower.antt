@@ -78,9 +78,4 @@ module _ (b : Book) (t : ℕ) where
     pub body_is : kind_of (field b terms t 0) ≡ quantifier_expr → field b terms t 3 ≡ 0 → (tag : ℕ) → term_of b tag (field b terms t 6) ≡ term_of b tag t
     unfolding to_sexpr term_by
     body_is e z tag = unfold term_of in (vars_none b _ _ _ _ _ z ∙ sym (unfold term_of in by_kind e tag))
-
     -- the last kind
-    pub last_kind : (k : ℕ) → field b terms t 0 ≡ k → (k ≡ 0 → ⊥) → (k ≡ 1 → ⊥) → (k ≡ 2 → ⊥) → (k ≡ 3 → ⊥) → (k ≡ 4 → ⊥) → (k ≡ 5 → ⊥) → (k ≡ 6 → ⊥) → (k ≡ 7 → ⊥) → field b terms t 0 ≡ 8
-    last_kind k e n0 n1 n2 n3 n4 n5 n6 n7 =
-        each_kind k (omega (arith, (P.term t l).known)) (λ h. absurd (n0 h)) (λ h. absurd (n1 h)) (λ h. absurd (n2 h)) (λ h. absurd (n3 h)) (λ h. absurd (n4 h)) (λ h. absurd (n5 h))
-        (λ h. absurd (n6 h)) (λ h. absurd (n7 h)) (λ h. e ∙ h)

@@ -62,21 +62,17 @@ module _ (b : Book) where
   unfolding Fine FineName meaning text_of id constant_of
   is_id {v} r e = rw e (record { fine = (r.promise.constant v r.here).name; is = λ tag. refl })
 
-  pub is_bool : {k : ℕ} → k ≡ 0 → IsType b k (value.S (name.Word word.Bool))
+  pub is_bool : {k : ℕ} → 0 ≡ k → IsType b k (value.S (name.Word word.Bool))
   unfolding Fine FineName meaning text_of word_text type_of type_to_sexpr
-  is_bool e = rw e (record { fine = tt; is = λ tag. refl })
+  is_bool e = rw (← e) (record { fine = tt; is = λ tag. refl })
 
-  pub is_int : {k : ℕ} → k ≡ 1 → IsType b k (value.S (name.Word word.Int))
+  pub is_int : {k : ℕ} → 1 ≡ k → IsType b k (value.S (name.Word word.Int))
   unfolding Fine FineName meaning text_of word_text type_of type_to_sexpr
-  is_int e = rw e (record { fine = tt; is = λ tag. refl })
+  is_int e = rw (← e) (record { fine = tt; is = λ tag. refl })
 
-  pub is_user : {x : ℕ} (k : ℕ) → ReadyType b k → (k ≡ 0 → ⊥) → (k ≡ 1 → ⊥) → x ≡ field b types (k - 2) 0 → IsType b k (value.S (name.Symbol x))
+  pub is_user : {x : ℕ} (n : ℕ) {k : ℕ} → ReadyType b k → suc (suc n) ≡ k → x ≡ field b types n 0 → IsType b k (value.S (name.Symbol x))
   unfolding Fine FineName meaning text_of type_of type_to_sexpr
-  is_user zero r n m e = absurd (n refl)
-  is_user (suc zero) r n m e = absurd (m refl)
-  is_user (suc (suc k)) r n m e =
-      let j : suc (suc k) - 2 ≡ k = omega arith in
-      rw (e, j) (record { fine = r.promise.type_name k (omega (arith, r.here)); is = λ tag. refl })
+  is_user n r t e = rw (e, ← t) (record { fine = r.promise.type_name n (omega (arith, t, r.here)); is = λ tag. refl })
 
   module _ {n : ℕ} {r : Bool} (t : ℕ) (e : n ≡ field b terms t 1) (h : r ≡ same (name_text b n) (ascii "%tag")) where
     tagged : is_tag (literal_of b t) ≡ r

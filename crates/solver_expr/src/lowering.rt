@@ -5,8 +5,9 @@ ghost use Rattle.book.specs.Book.{names, terms, field, name_text};
 ghost use Rattle.solver_expr.specs.Values.{Ready, ReadyType, ReadyLiteral, IsType, IsLiteral, without_variables, Bare, Lowered};
 
 use super::{SExpr, SName, SRow, Word};
-use book::field;
 use book::format::*;
+use book::{Kind, SType, field};
+use records::kind_of;
 
 // The name of the literal that is replaced by a number.
 const TAG: &[u8] = b"%tag";
@@ -18,10 +19,10 @@ pub fn type_to_sexpr(book: &[u8], k: usize) -> SExpr
     requires { ReadyType book.now k }
     ensures { IsType book.now k result }
 {
-    match k {
-        BOOL => SExpr::S(SName::Word(Word::Bool)),
-        INT => SExpr::S(SName::Word(Word::Int)),
-        USER_TYPES.. => SExpr::S(SName::Symbol(field(book, TYPES, k - USER_TYPES, TYPE_NAME))),
+    match SType::from(k) {
+        SType::Bool => SExpr::S(SName::Word(Word::Bool)),
+        SType::Int => SExpr::S(SName::Word(Word::Int)),
+        SType::User(n) => SExpr::S(SName::Symbol(field(book, TYPES, n, TYPE_NAME))),
     }
 }
 
@@ -58,7 +59,7 @@ fn without_variables(book: &[u8], t: usize) -> bool
     requires { Ready book.now terms t }
     ensures { result ≡ without_variables book.now t }
 {
-    (field(book, TERMS, t, KIND) == QUANTIFIER_EXPR)
+    (field(book, TERMS, t, KIND) == Kind::QuantifierExpr as usize)
         & (field(book, TERMS, t, QUANTIFIER_CONSTANTS_COUNT) == 0)
 }
 
@@ -79,23 +80,22 @@ pub fn to_sexpr(book: &[u8], t: usize) -> SExpr
     ensures { Lowered book.now t result }
 {
     let x = bare(book, t);
-    let kind = field(book, TERMS, x, KIND);
-    match kind {
-        BOOLEAN => SExpr::boolean(field(book, TERMS, x, BOOLEAN_VALUE) != 0),
-        INTEGER => SExpr::integer(integer_bits(book, x)),
-        CUSTOM_LITERAL => literal(book, x),
-        ID => SExpr::id(book, field(book, TERMS, x, ID_CONSTANT)),
-        BUILT_IN => {
+    match kind_of(book, x) {
+        Kind::Boolean => SExpr::boolean(field(book, TERMS, x, BOOLEAN_VALUE) != 0),
+        Kind::Integer => SExpr::integer(integer_bits(book, x)),
+        Kind::CustomLiteral => literal(book, x),
+        Kind::Id => SExpr::id(book, field(book, TERMS, x, ID_CONSTANT)),
+        Kind::BuiltIn => {
             let op = SName::Operator(field(book, TERMS, x, OPERATOR));
             SExpr::func_appl(op, x as u32, field(book, TERMS, x, ARGUMENTS_COUNT))
         }
-        APPLICATION => {
+        Kind::Application => {
             let f = field(book, TERMS, x, OPERATOR);
             let op = SName::Symbol(field(book, FUNCTIONS, f, FUNCTION_NAME));
             SExpr::func_appl(op, x as u32, field(book, TERMS, x, ARGUMENTS_COUNT))
         }
-        IF_THEN_ELSE => SExpr::PP(SRow::Ite(x)),
-        LET_EXPR => SExpr::PP(SRow::Let(x)),
-        _ => SExpr::PP(SRow::Quantifier(x)),
+        Kind::IfThenElse => SExpr::PP(SRow::Ite(x)),
+        Kind::LetExpr => SExpr::PP(SRow::Let(x)),
+        Kind::QuantifierExpr => SExpr::PP(SRow::Quantifier(x)),
     }
 }
