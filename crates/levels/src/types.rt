@@ -50,7 +50,7 @@ pub fn declare_new_types(
     }
 }
 
-// The types in a range of lists.
+// The types in a range of lists. Each walk of a range has its own loop: two lines are the same, and a closure for the rest would need each one's contract.
 fn declare_types(
     book: &[u8],
     start: usize,

@@ -6,7 +6,7 @@ ghost use Rattle.rsolver.specs.LevelState.{level_count, no_levels, forget};
 
 use book::format::*;
 
-// The type of a stored level.
+// The type of a stored level. Calls take levels as slices: a struct of them would ask more of the callers.
 pub type Level = u16;
 
 // Where the records of each section begin, the types first: as many places as the section's largest count.
@@ -37,7 +37,7 @@ pub fn copy(levels: &[Level]) -> [Level; LEVEL_COUNT]
     copied
 }
 
-// Two slices hold the same levels.
+// Two slices hold the same levels: `==`, in the words of the test of a session.
 pub fn same(a: &[Level], b: &[Level]) -> bool
     ensures { result ≡ same a.now b.now }
 {
