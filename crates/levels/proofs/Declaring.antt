@@ -33,11 +33,9 @@ module _ (b : Book) where
   type_none (suc zero) l h = did_skip _ _ _ _ h
   type_none (suc (suc k)) l h = absurd (omega arith)
 
-  pub type_some : (typ : ℕ) {n : ℕ} {ls ls1 : List ℕ} {so r : Progress} {o o1 : List ℕ} → 1 < typ → Did (user_type_step b (typ - user_types)) n ls ls1 so o o1 r → Did (type_step b typ) n ls ls1 so o o1 r
+  pub type_some : (k : ℕ) {typ n : ℕ} {ls ls1 : List ℕ} {so r : Progress} {o o1 : List ℕ} → suc (suc k) ≡ typ → Did (user_type_step b k) n ls ls1 so o o1 r → Did (type_step b typ) n ls ls1 so o o1 r
   unfolding type_step user_type_step type_of
-  type_some zero l d = absurd (omega arith)
-  type_some (suc zero) l d = absurd (omega arith)
-  type_some (suc (suc k)) l d = let e : suc (suc k) - user_types ≡ k = omega arith in rw e at d
+  type_some k e d = rw (← e) d
 
   pub types_none : (start n : ℕ) (ls : List ℕ) (so : Progress) (o : List ℕ) → so.at < MOST + 1 → Did (types_step b start 0) n ls ls so o o so
   unfolding types_step

@@ -7,8 +7,8 @@ ghost use Rattle.levels.specs.Types.{user_type_step, type_step, types_step, cons
 
 use super::marks::mark;
 use super::{CONSTANT_PLACES, FUNCTION_PLACES, Progress};
-use book::field;
 use book::format::*;
+use book::{SType, field};
 use session_levels::Level;
 
 // User type k.
@@ -44,9 +44,10 @@ pub fn declare_new_types(
     requires { Ready book.now level levels.old × (typ < user_types + size book.now types) }
     ensures { Did (type_step book.now typ) level levels.old levels.new so out.old out.new result }
 {
-    match typ {
-        BOOL..=INT => so,
-        _ => declare_type(book, typ - USER_TYPES, level, levels, so, out),
+    match SType::from(typ) {
+        SType::Bool => so,
+        SType::Int => so,
+        SType::User(k) => declare_type(book, k, level, levels, so, out),
     }
 }
 

@@ -7,14 +7,15 @@ ghost use Rattle.levels.specs.Did.{Ready};
 ghost use Rattle.walk.specs.Walk.{symbols_step, terms_step, patterns_step, operator_step, axioms_step, axiom_step, sent_axiom_step, Walked, Included, NewSymbols};
 
 use super::leaves::{all_explained, declare_id, declare_variables, exclude_variables};
-use book::field;
 use book::format::*;
+use book::{Kind, field};
 use excluded::Excluded;
 use levels::{
     AXIOM_PLACES, FUNCTION_PLACES, Level, Progress, declare_function, declare_type_of,
     declared_count, mark,
 };
 use literals::declare_literal;
+use records::kind_of;
 use smt_engines::assume;
 
 // Term t.
@@ -31,26 +32,27 @@ fn walk_term(
     requires { Ready book.now level levels.old × (t < size book.now terms) }
     ensures { Walked (symbols_step book.now t) exclude.now.bits level levels.old levels.new so out.old out.new result }
 {
-    match field(book, TERMS, t, KIND) {
-        BOOLEAN..=INTEGER => so,
-        CUSTOM_LITERAL => declare_literal(book, t, level, levels, so, out),
-        ID => {
+    match kind_of(book, t) {
+        Kind::Boolean => so,
+        Kind::Integer => so,
+        Kind::CustomLiteral => declare_literal(book, t, level, levels, so, out),
+        Kind::Id => {
             let v = field(book, TERMS, t, ID_CONSTANT);
             declare_id(book, v, exclude, level, levels, so, out)
         }
-        BUILT_IN => {
+        Kind::BuiltIn => {
             let start = field(book, TERMS, t, ARGUMENTS);
             let count = field(book, TERMS, t, ARGUMENTS_COUNT);
             walk_terms(book, t, start, count, exclude, level, levels, so, out)
         }
-        APPLICATION => {
+        Kind::Application => {
             let f = field(book, TERMS, t, OPERATOR);
             let done = walk_operator(book, f, level, levels, so, out);
             let start = field(book, TERMS, t, ARGUMENTS);
             let count = field(book, TERMS, t, ARGUMENTS_COUNT);
             walk_terms(book, t, start, count, exclude, level, levels, done, out)
         }
-        IF_THEN_ELSE => {
+        Kind::IfThenElse => {
             let guard = field(book, TERMS, t, IF_GUARD);
             let one = walk_term(book, guard, exclude, level, levels, so, out);
             let thn = field(book, TERMS, t, IF_THEN);
@@ -58,7 +60,7 @@ fn walk_term(
             let els = field(book, TERMS, t, IF_ELSE);
             walk_term(book, els, exclude, level, levels, two, out)
         }
-        LET_EXPR => {
+        Kind::LetExpr => {
             let v = field(book, TERMS, t, LET_CONSTANT);
             let one = declare_type_of(book, v, level, levels, so, out);
             let rhs = field(book, TERMS, t, LET_RHS);
@@ -67,7 +69,7 @@ fn walk_term(
             let more = exclude.with(v);
             walk_term(book, body, &more, level, levels, two, out)
         }
-        QUANTIFIER_EXPR.. => {
+        Kind::QuantifierExpr => {
             let one = declare_variables(book, t, level, levels, so, out);
             let more = exclude_variables(book, t, exclude);
             let start = field(book, TERMS, t, QUANTIFIER_PATTERNS);

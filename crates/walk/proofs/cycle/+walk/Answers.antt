@@ -1,7 +1,7 @@
 use native.Mathlib.Omega.{arith}
 use mathlib.Core.Path.{refl, ◌∙◌}
 use Rattle.levels.proofs.Steps.{ready_next}
-use Rattle.book_test.proofs.TermKinds.{good_literal, good_id, good_built_in, good_application, good_if, good_let, good_quantifier, known}
+use Rattle.book_test.proofs.TermKinds.{good_literal, good_id, good_built_in, good_application, good_if, good_let, good_quantifier}
 use Rattle.walk.proofs.Walks.{term_fewer, terms_fewer, patterns_fewer, operator_fewer, axioms_fewer, type_fewer, variables_fewer, function_fewer, walked_none, walked_literal, walked_id, walked_built_in, walked_application, walked_if, walked_let, walked_quantifier, terms_none, terms_more, patterns_none, patterns_more}
 use Rattle.walk.proofs.Axioms.{operator_old, operator_new, axioms_none, axioms_more, axiom_missing, axiom_old, axiom_early, axiom_sent, mark_fewer, sent_axiom}
 use Rattle.walk.proofs.cycle.+walk.Goals as goal
@@ -52,77 +52,83 @@ walk_patterns-walk_terms-done-requires t c = (omega (arith, c.decreases, pattern
 pub walk_patterns-loop-i-preserved : goal.walk_patterns-loop-i-preserved
 walk_patterns-loop-i-preserved t c = (patterns_more _ _ _ c.well_formed.1.1.1.1.1.1.1.1.0.0 c.loop-i.invariant.0 c.field-p.ensures.is c.field-first.ensures.is c.field-many.ensures.is c.walk_terms-done.ensures, c.walk_terms-done.auto.levels ∙ c.loop-i.invariant.1)
 
+pub walk_term-kind_of-requires : goal.walk_term-kind_of-requires
+walk_term-kind_of-requires t c = (c.requires.0.promise, c.requires.1)
+
 pub walk_term-declare_literal-requires : goal.walk_term-declare_literal-requires
-walk_term-declare_literal-requires t c = (c.requires.0, c.requires.1, good_literal c.requires.0.promise c.requires.1 c.field.ensures.is c.in-2.is)
+walk_term-declare_literal-requires t c = (c.requires.0, c.requires.1, good_literal c.requires.0.promise c.requires.1 c.in-CustomLiteral.ensures refl)
 
 pub walk_term-declare_id-requires : goal.walk_term-declare_id-requires
-walk_term-declare_id-requires t c = (c.requires.0, rw c.field-v.ensures.is (good_id c.requires.0.promise c.requires.1 c.field.ensures.is c.in-3.is))
+walk_term-declare_id-requires t c = (c.requires.0, rw c.field-v.ensures.is (good_id c.requires.0.promise c.requires.1 c.in-Id.ensures refl))
 
 pub walk_term-walk_terms-requires : goal.walk_term-walk_terms-requires
-walk_term-walk_terms-requires t c = (omega (arith, c.decreases), (c.requires.0, c.requires.1, rw (c.field-start.ensures.is, c.field-count.ensures.is) (good_built_in c.requires.0.promise c.requires.1 c.field.ensures.is c.in-4.is).args))
+walk_term-walk_terms-requires t c = (omega (arith, c.decreases), (c.requires.0, c.requires.1, rw (c.field-start.ensures.is, c.field-count.ensures.is) (good_built_in c.requires.0.promise c.requires.1 c.in-BuiltIn.ensures refl).args))
 
 pub walk_term-walk_operator-done-requires : goal.walk_term-walk_operator-done-requires
-walk_term-walk_operator-done-requires t c = (omega (arith, c.decreases), (c.requires.0, rw c.field-f.ensures.is (good_application c.requires.0.promise c.requires.1 c.field.ensures.is c.in-5.is).function))
+walk_term-walk_operator-done-requires t c = (omega (arith, c.decreases), (c.requires.0, rw c.field-f.ensures.is (good_application c.requires.0.promise c.requires.1 c.in-Application.ensures refl).function))
 
-pub walk_term-walk_terms-requires-in-5 : goal.walk_term-walk_terms-requires-in-5
-walk_term-walk_terms-requires-in-5 t c = (omega (arith, c.decreases, operator_fewer c.requires.0 _ c.walk_operator-done.ensures), (ready_next c.requires.0 c.walk_operator-done.auto.levels, c.requires.1, rw (c.field-start-in-5.ensures.is, c.field-count-in-5.ensures.is) (good_application c.requires.0.promise c.requires.1 c.field.ensures.is c.in-5.is).args))
+pub walk_term-walk_terms-requires-in-Application : goal.walk_term-walk_terms-requires-in-Application
+walk_term-walk_terms-requires-in-Application t c = (omega (arith, c.decreases, operator_fewer c.requires.0 _ c.walk_operator-done.ensures), (ready_next c.requires.0 c.walk_operator-done.auto.levels, c.requires.1, rw (c.field-start-in-Application.ensures.is, c.field-count-in-Application.ensures.is) (good_application c.requires.0.promise c.requires.1 c.in-Application.ensures refl).args))
 
 pub walk_term-walk_term-one-requires : goal.walk_term-walk_term-one-requires
-walk_term-walk_term-one-requires t c = (omega (arith, c.decreases, c.field-guard.ensures.is, (good_if c.requires.0.promise c.requires.1 c.field.ensures.is c.in-6.is).guard), (c.requires.0, omega (arith, c.field-guard.ensures.is, (good_if c.requires.0.promise c.requires.1 c.field.ensures.is c.in-6.is).guard, c.requires.1)))
+walk_term-walk_term-one-requires t c = (omega (arith, c.decreases, c.field-guard.ensures.is, (good_if c.requires.0.promise c.requires.1 c.in-IfThenElse.ensures refl).guard), (c.requires.0, omega (arith, c.field-guard.ensures.is, (good_if c.requires.0.promise c.requires.1 c.in-IfThenElse.ensures refl).guard, c.requires.1)))
 
 pub walk_term-walk_term-two-requires : goal.walk_term-walk_term-two-requires
-walk_term-walk_term-two-requires t c = (omega (arith, c.decreases, c.field-thn.ensures.is, (good_if c.requires.0.promise c.requires.1 c.field.ensures.is c.in-6.is).thn, term_fewer c.requires.0 _ c.args.exclude.now.long c.walk_term-one.ensures), (ready_next c.requires.0 c.walk_term-one.auto.levels, omega (arith, c.field-thn.ensures.is, (good_if c.requires.0.promise c.requires.1 c.field.ensures.is c.in-6.is).thn, c.requires.1)))
+walk_term-walk_term-two-requires t c = (omega (arith, c.decreases, c.field-thn.ensures.is, (good_if c.requires.0.promise c.requires.1 c.in-IfThenElse.ensures refl).thn, term_fewer c.requires.0 _ c.args.exclude.now.long c.walk_term-one.ensures), (ready_next c.requires.0 c.walk_term-one.auto.levels, omega (arith, c.field-thn.ensures.is, (good_if c.requires.0.promise c.requires.1 c.in-IfThenElse.ensures refl).thn, c.requires.1)))
 
 pub walk_term-walk_term-requires : goal.walk_term-walk_term-requires
-walk_term-walk_term-requires t c = (omega (arith, c.decreases, c.field-els.ensures.is, (good_if c.requires.0.promise c.requires.1 c.field.ensures.is c.in-6.is).els, term_fewer c.requires.0 _ c.args.exclude.now.long c.walk_term-one.ensures, term_fewer (ready_next c.requires.0 c.walk_term-one.auto.levels) _ c.args.exclude.now.long c.walk_term-two.ensures), (ready_next c.requires.0 (c.walk_term-two.auto.levels ∙ c.walk_term-one.auto.levels), omega (arith, c.field-els.ensures.is, (good_if c.requires.0.promise c.requires.1 c.field.ensures.is c.in-6.is).els, c.requires.1)))
+walk_term-walk_term-requires t c = (omega (arith, c.decreases, c.field-els.ensures.is, (good_if c.requires.0.promise c.requires.1 c.in-IfThenElse.ensures refl).els, term_fewer c.requires.0 _ c.args.exclude.now.long c.walk_term-one.ensures, term_fewer (ready_next c.requires.0 c.walk_term-one.auto.levels) _ c.args.exclude.now.long c.walk_term-two.ensures), (ready_next c.requires.0 (c.walk_term-two.auto.levels ∙ c.walk_term-one.auto.levels), omega (arith, c.field-els.ensures.is, (good_if c.requires.0.promise c.requires.1 c.in-IfThenElse.ensures refl).els, c.requires.1)))
 
 pub walk_term-declare_type_of-one-requires : goal.walk_term-declare_type_of-one-requires
-walk_term-declare_type_of-one-requires t c = (c.requires.0, rw c.field-v-in-7.ensures.is (good_let c.requires.0.promise c.requires.1 c.field.ensures.is c.in-7.is).v)
+walk_term-declare_type_of-one-requires t c = (c.requires.0, rw c.field-v-in-LetExpr.ensures.is (good_let c.requires.0.promise c.requires.1 c.in-LetExpr.ensures refl).v)
 
-pub walk_term-walk_term-two-requires-in-7 : goal.walk_term-walk_term-two-requires-in-7
-walk_term-walk_term-two-requires-in-7 t c = (omega (arith, c.decreases, c.field-rhs.ensures.is, (good_let c.requires.0.promise c.requires.1 c.field.ensures.is c.in-7.is).rhs, type_fewer c.requires.0 _ c.declare_type_of-one.ensures), (ready_next c.requires.0 c.declare_type_of-one.auto.levels, omega (arith, c.field-rhs.ensures.is, (good_let c.requires.0.promise c.requires.1 c.field.ensures.is c.in-7.is).rhs, c.requires.1)))
+pub walk_term-walk_term-two-requires-in-LetExpr : goal.walk_term-walk_term-two-requires-in-LetExpr
+walk_term-walk_term-two-requires-in-LetExpr t c = (omega (arith, c.decreases, c.field-rhs.ensures.is, (good_let c.requires.0.promise c.requires.1 c.in-LetExpr.ensures refl).rhs, type_fewer c.requires.0 _ c.declare_type_of-one.ensures), (ready_next c.requires.0 c.declare_type_of-one.auto.levels, omega (arith, c.field-rhs.ensures.is, (good_let c.requires.0.promise c.requires.1 c.in-LetExpr.ensures refl).rhs, c.requires.1)))
 
 pub walk_term-with-more-requires : goal.walk_term-with-more-requires
-walk_term-with-more-requires t c = omega (arith, c.field-v-in-7.ensures.is, (good_let c.requires.0.promise c.requires.1 c.field.ensures.is c.in-7.is).v, c.requires.0.promise.constants_laid.few)
+walk_term-with-more-requires t c = omega (arith, c.field-v-in-LetExpr.ensures.is, (good_let c.requires.0.promise c.requires.1 c.in-LetExpr.ensures refl).v, c.requires.0.promise.constants_laid.few)
 
-pub walk_term-walk_term-requires-in-7 : goal.walk_term-walk_term-requires-in-7
-walk_term-walk_term-requires-in-7 t c = (omega (arith, c.decreases, c.field-body.ensures.is, (good_let c.requires.0.promise c.requires.1 c.field.ensures.is c.in-7.is).body, type_fewer c.requires.0 _ c.declare_type_of-one.ensures, term_fewer (ready_next c.requires.0 c.declare_type_of-one.auto.levels) _ c.args.exclude.now.long c.walk_term-two-in-7.ensures), (ready_next c.requires.0 (c.walk_term-two-in-7.auto.levels ∙ c.declare_type_of-one.auto.levels), omega (arith, c.field-body.ensures.is, (good_let c.requires.0.promise c.requires.1 c.field.ensures.is c.in-7.is).body, c.requires.1)))
+pub walk_term-walk_term-requires-in-LetExpr : goal.walk_term-walk_term-requires-in-LetExpr
+walk_term-walk_term-requires-in-LetExpr t c = (omega (arith, c.decreases, c.field-body.ensures.is, (good_let c.requires.0.promise c.requires.1 c.in-LetExpr.ensures refl).body, type_fewer c.requires.0 _ c.declare_type_of-one.ensures, term_fewer (ready_next c.requires.0 c.declare_type_of-one.auto.levels) _ c.args.exclude.now.long c.walk_term-two-in-LetExpr.ensures), (ready_next c.requires.0 (c.walk_term-two-in-LetExpr.auto.levels ∙ c.declare_type_of-one.auto.levels), omega (arith, c.field-body.ensures.is, (good_let c.requires.0.promise c.requires.1 c.in-LetExpr.ensures refl).body, c.requires.1)))
 
 pub walk_term-declare_variables-one-requires : goal.walk_term-declare_variables-one-requires
-walk_term-declare_variables-one-requires t c = (c.requires.0, c.requires.1, (good_quantifier c.requires.0.promise c.requires.1 c.field.ensures.is (omega (arith, known c.requires.0.promise c.requires.1 c.field.ensures.is))))
+walk_term-declare_variables-one-requires t c = (c.requires.0, c.requires.1, (good_quantifier c.requires.0.promise c.requires.1 c.in-QuantifierExpr.ensures refl))
 
 pub walk_term-exclude_variables-more-requires : goal.walk_term-exclude_variables-more-requires
-walk_term-exclude_variables-more-requires t c = (c.requires.0.promise, c.requires.1, (good_quantifier c.requires.0.promise c.requires.1 c.field.ensures.is (omega (arith, known c.requires.0.promise c.requires.1 c.field.ensures.is))))
+walk_term-exclude_variables-more-requires t c = (c.requires.0.promise, c.requires.1, (good_quantifier c.requires.0.promise c.requires.1 c.in-QuantifierExpr.ensures refl))
 
 pub walk_term-walk_patterns-two-requires : goal.walk_term-walk_patterns-two-requires
-walk_term-walk_patterns-two-requires t c = (omega (arith, c.decreases, variables_fewer c.requires.0 _ _ c.declare_variables-one.ensures), (ready_next c.requires.0 c.declare_variables-one.auto.levels, c.requires.1, rw (c.field-start-in-8-to-max.ensures.is, c.field-count-in-8-to-max.ensures.is) (good_quantifier c.requires.0.promise c.requires.1 c.field.ensures.is (omega (arith, known c.requires.0.promise c.requires.1 c.field.ensures.is))).patterns))
+walk_term-walk_patterns-two-requires t c = (omega (arith, c.decreases, variables_fewer c.requires.0 _ _ c.declare_variables-one.ensures), (ready_next c.requires.0 c.declare_variables-one.auto.levels, c.requires.1, rw (c.field-start-in-QuantifierExpr.ensures.is, c.field-count-in-QuantifierExpr.ensures.is) (good_quantifier c.requires.0.promise c.requires.1 c.in-QuantifierExpr.ensures refl).patterns))
 
-pub walk_term-walk_term-requires-in-8-to-max : goal.walk_term-walk_term-requires-in-8-to-max
-walk_term-walk_term-requires-in-8-to-max t c = (omega (arith, c.decreases, c.field-body-in-8-to-max.ensures.is, (good_quantifier c.requires.0.promise c.requires.1 c.field.ensures.is (omega (arith, known c.requires.0.promise c.requires.1 c.field.ensures.is))).body, variables_fewer c.requires.0 _ _ c.declare_variables-one.ensures, patterns_fewer (ready_next c.requires.0 c.declare_variables-one.auto.levels) _ _ c.exclude_variables-more.result.long c.walk_patterns-two.ensures), (ready_next c.requires.0 (c.walk_patterns-two.auto.levels ∙ c.declare_variables-one.auto.levels), omega (arith, c.field-body-in-8-to-max.ensures.is, (good_quantifier c.requires.0.promise c.requires.1 c.field.ensures.is (omega (arith, known c.requires.0.promise c.requires.1 c.field.ensures.is))).body, c.requires.1)))
+pub walk_term-walk_term-requires-in-QuantifierExpr : goal.walk_term-walk_term-requires-in-QuantifierExpr
+walk_term-walk_term-requires-in-QuantifierExpr t c = (omega (arith, c.decreases, c.field-body-in-QuantifierExpr.ensures.is, (good_quantifier c.requires.0.promise c.requires.1 c.in-QuantifierExpr.ensures refl).body, variables_fewer c.requires.0 _ _ c.declare_variables-one.ensures, patterns_fewer (ready_next c.requires.0 c.declare_variables-one.auto.levels) _ _ c.exclude_variables-more.result.long c.walk_patterns-two.ensures), (ready_next c.requires.0 (c.walk_patterns-two.auto.levels ∙ c.declare_variables-one.auto.levels), omega (arith, c.field-body-in-QuantifierExpr.ensures.is, (good_quantifier c.requires.0.promise c.requires.1 c.in-QuantifierExpr.ensures refl).body, c.requires.1)))
 
-pub walk_term-returns-in-2 : goal.walk_term-returns-in-2
-walk_term-returns-in-2 t c = walked_literal c.requires.0.promise c.requires.1 c.field.ensures.is c.in-2.is c.declare_literal.ensures
+pub walk_term-returns-in-CustomLiteral : goal.walk_term-returns-in-CustomLiteral
+walk_term-returns-in-CustomLiteral t c = walked_literal c.requires.0.promise c.requires.1 c.in-CustomLiteral.ensures refl c.declare_literal.ensures
 
-pub walk_term-returns-in-3 : goal.walk_term-returns-in-3
-walk_term-returns-in-3 t c = walked_id c.requires.0.promise c.requires.1 c.field.ensures.is c.in-3.is c.field-v.ensures.is c.declare_id.ensures
+pub walk_term-returns-in-Id : goal.walk_term-returns-in-Id
+walk_term-returns-in-Id t c = walked_id c.requires.0.promise c.requires.1 c.in-Id.ensures refl c.field-v.ensures.is c.declare_id.ensures
 
-pub walk_term-returns-in-4 : goal.walk_term-returns-in-4
-walk_term-returns-in-4 t c = walked_built_in c.requires.0.promise c.requires.1 c.field.ensures.is c.in-4.is c.field-start.ensures.is c.field-count.ensures.is c.walk_terms.ensures
+pub walk_term-returns-in-BuiltIn : goal.walk_term-returns-in-BuiltIn
+walk_term-returns-in-BuiltIn t c = walked_built_in c.requires.0.promise c.requires.1 c.in-BuiltIn.ensures refl c.field-start.ensures.is c.field-count.ensures.is c.walk_terms.ensures
 
-pub walk_term-returns-in-5 : goal.walk_term-returns-in-5
-walk_term-returns-in-5 t c = walked_application c.requires.0.promise c.requires.1 c.field.ensures.is c.well_formed.1.1.1.1.1.1.0.0 c.in-5.is c.field-f.ensures.is c.field-start-in-5.ensures.is c.field-count-in-5.ensures.is c.walk_operator-done.ensures c.walk_terms-in-5.ensures
+pub walk_term-returns-in-Application : goal.walk_term-returns-in-Application
+walk_term-returns-in-Application t c = walked_application c.requires.0.promise c.requires.1 c.in-Application.ensures c.well_formed.1.1.1.1.1.1.0.0 refl c.field-f.ensures.is c.field-start-in-Application.ensures.is c.field-count-in-Application.ensures.is c.walk_operator-done.ensures c.walk_terms-in-Application.ensures
 
-pub walk_term-returns-in-6 : goal.walk_term-returns-in-6
-walk_term-returns-in-6 t c = walked_if c.requires.0.promise c.requires.1 c.field.ensures.is c.well_formed.1.1.1.1.1.1.0.0 c.in-6.is c.field-guard.ensures.is c.field-thn.ensures.is c.field-els.ensures.is c.walk_term-one.ensures c.walk_term-two.ensures c.walk_term.ensures
+pub walk_term-returns-in-IfThenElse : goal.walk_term-returns-in-IfThenElse
+walk_term-returns-in-IfThenElse t c = walked_if c.requires.0.promise c.requires.1 c.in-IfThenElse.ensures c.well_formed.1.1.1.1.1.1.0.0 refl c.field-guard.ensures.is c.field-thn.ensures.is c.field-els.ensures.is c.walk_term-one.ensures c.walk_term-two.ensures c.walk_term.ensures
 
-pub walk_term-returns-in-7 : goal.walk_term-returns-in-7
-walk_term-returns-in-7 t c = walked_let c.requires.0.promise c.requires.1 c.field.ensures.is c.well_formed.1.1.1.1.1.1.0.0 c.in-7.is c.field-v-in-7.ensures.is c.field-rhs.ensures.is c.field-body.ensures.is c.declare_type_of-one.ensures c.walk_term-two-in-7.ensures c.with-more.ensures c.walk_term-in-7.ensures
+pub walk_term-returns-in-LetExpr : goal.walk_term-returns-in-LetExpr
+walk_term-returns-in-LetExpr t c = walked_let c.requires.0.promise c.requires.1 c.in-LetExpr.ensures c.well_formed.1.1.1.1.1.1.0.0 refl c.field-v-in-LetExpr.ensures.is c.field-rhs.ensures.is c.field-body.ensures.is c.declare_type_of-one.ensures c.walk_term-two-in-LetExpr.ensures c.with-more.ensures c.walk_term-in-LetExpr.ensures
 
-pub walk_term-returns-in-0-to-1 : goal.walk_term-returns-in-0-to-1
-walk_term-returns-in-0-to-1 t c = walked_none c.requires.0.promise c.requires.1 c.field.ensures.is (omega arith) _ _ _ _ _ (omega (arith, c.well_formed.1.1.1.1.1.0))
+pub walk_term-returns-in-Boolean : goal.walk_term-returns-in-Boolean
+walk_term-returns-in-Boolean t c = walked_none c.requires.0.promise c.requires.1 c.in-Boolean.ensures (omega arith) _ _ _ _ _ (omega (arith, c.well_formed.1.1.1.1.1.0))
 
-pub walk_term-returns-in-8-to-max : goal.walk_term-returns-in-8-to-max
-walk_term-returns-in-8-to-max t c = walked_quantifier c.requires.0.promise c.requires.1 c.field.ensures.is c.well_formed.1.1.1.1.1.1.0.0 (omega (arith, known c.requires.0.promise c.requires.1 c.field.ensures.is)) c.field-start-in-8-to-max.ensures.is c.field-count-in-8-to-max.ensures.is c.field-body-in-8-to-max.ensures.is c.declare_variables-one.ensures c.exclude_variables-more.ensures c.walk_patterns-two.ensures c.walk_term-in-8-to-max.ensures
+pub walk_term-returns-in-Integer : goal.walk_term-returns-in-Integer
+walk_term-returns-in-Integer t c = walked_none c.requires.0.promise c.requires.1 c.in-Integer.ensures (omega arith) _ _ _ _ _ (omega (arith, c.well_formed.1.1.1.1.1.0))
+
+pub walk_term-returns-in-QuantifierExpr : goal.walk_term-returns-in-QuantifierExpr
+walk_term-returns-in-QuantifierExpr t c = walked_quantifier c.requires.0.promise c.requires.1 c.in-QuantifierExpr.ensures c.well_formed.1.1.1.1.1.1.0.0 refl c.field-start-in-QuantifierExpr.ensures.is c.field-count-in-QuantifierExpr.ensures.is c.field-body-in-QuantifierExpr.ensures.is c.declare_variables-one.ensures c.exclude_variables-more.ensures c.walk_patterns-two.ensures c.walk_term-in-QuantifierExpr.ensures
 
 pub walk_terms-loop-i-init : goal.walk_terms-loop-i-init
 walk_terms-loop-i-init t c = (terms_none _ _ _ _ _ _ _ (omega (arith, c.well_formed.1.1.1.1.1.1.1.0)), refl)
