@@ -1,3 +1,3 @@
 pub mod Climb
 pub mod Shared
-pub mod PathLines
+pub mod FromRoot

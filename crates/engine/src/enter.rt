@@ -53,13 +53,10 @@ pub fn descend(
     ensures { Descended book.now node count levels.new so out.old out.new result }
 {
     let path = path_of(book, node);
-    let nodes = path.nodes;
-    let depth = path.depth;
+    let nodes = path.as_slice();
     let mut done = so;
-    let mut k = count;
-    while 0 < k {
-        k -= 1;
-        let level = (depth - k) as Level;
+    for k in (0..count).rev() {
+        let level = (nodes.len() - k) as Level;
         done = enter(book, nodes[k] as usize, level, levels, done, out);
     }
     done

@@ -42,12 +42,9 @@ fn print_context(book: &[u8], node: usize, at: usize, out: &mut [u8]) -> usize
     ensures { WroteAt (print_context (program book.now) (path (program book.now) node)) at out.old out.new result }
 {
     let path = contexts::path_of(book, node);
-    let nodes = path.nodes;
-    let mut depth = path.depth;
     let mut done = at;
-    while 0 < depth {
-        depth -= 1;
-        done = put_premise(book, nodes[depth] as usize, done, out);
+    for below in path.as_slice().iter().rev() {
+        done = put_premise(book, *below as usize, done, out);
     }
     done
 }

@@ -47,13 +47,10 @@ fn print_trace(book: &[u8], node: usize, out: &mut [u8]) -> usize
     ensures { Wrote (print_trace (program book.now) node) out.old out.new result }
 {
     let path = contexts::path_of(book, node);
-    let nodes = path.nodes;
-    let mut depth = path.depth;
     let mut written = 0;
-    while 0 < depth {
-        depth -= 1;
+    for below in path.as_slice().iter().rev() {
         let k = basics::clip(written, out.len());
-        let line = trace_line(book, nodes[depth] as usize, &mut out[k..]);
+        let line = trace_line(book, *below as usize, &mut out[k..]);
         written = basics::sum(written, line);
     }
     written

@@ -1,33 +1,17 @@
 use native.Mathlib.Omega.{arith}
-use mathlib.Core.Path.{◌≡◌}
-use lib.ListN.{length}
-use Rattle.basics.proofs.Places.{at_length}
-use Rattle.book.specs.Book.{depth_most}
-use Rattle.contexts.proofs.PathLines.{node_below, node_fits}
+use Rattle.std.proofs.lemmas.List.{nil_from_length}
+use Rattle.contexts.proofs.FromRoot.{on_path}
 use Rattle.listing.proofs.Premises.{printing_start, printing_more, printing_done}
-use borrow.Author.Rules.{rules}
 use Rattle.listing.proofs.print_context.Goals as goal
 
-pub loop-depth-init : goal.loop-depth-init
-loop-depth-init c = printing_start _ _ _ _ _ (omega arith)
-
-pub offset_bounds-nodes-depth : goal.offset_bounds-nodes-depth
-offset_bounds-nodes-depth c = omega (arith, c.loop-depth.invariant.within, c.path_of-path.ensures.few)
-
-pub bounds-nodes-depth : goal.bounds-nodes-depth
-bounds-nodes-depth c = omega (arith, c.loop-depth.invariant.within, c.path_of-path.ensures.few)
-
-pub overflow_cast-nodes : goal.overflow_cast-nodes
-overflow_cast-nodes c = let n : length c.path_of-path.result.nodes ≡ depth_most = search rules in node_fits _ _ n c.path_of-path.ensures.few _ c.requires.promise _ c.requires.inside c.path_of-path.ensures.is _ (omega (arith, c.loop-depth.invariant.within))
+pub loop-below-init : goal.loop-below-init
+loop-below-init c = printing_start _ _ _ (rw (c.into_iter-below-iterator.ensures.into_iter_gives, c.rev-below-items.ensures.source, c.iter.ensures.rest, c.as_slice.ensures.value) c.path_of-path.ensures.is) (omega arith)
 
 pub put_premise-done-requires : goal.put_premise-done-requires
-put_premise-done-requires c = let n : length c.path_of-path.result.nodes ≡ depth_most = search rules in node_below _ _ n c.path_of-path.ensures.few _ c.requires.promise _ c.requires.inside c.path_of-path.ensures.is _ (omega (arith, c.loop-depth.invariant.within))
+put_premise-done-requires c = let w = c.loop-below.invariant in on_path _ c.requires.promise _ c.requires.inside _ _ _ (rw c.in-Some.ensures.steps at w.is)
 
-pub loop-depth-preserved : goal.loop-depth-preserved
-loop-depth-preserved c = let n : length c.path_of-path.result.nodes ≡ depth_most = search rules in printing_more _ _ n c.path_of-path.ensures.few c.well_formed.1.1.1.0.0 c.loop-depth.invariant (omega arith) c.put_premise-done.ensures
-
-pub shape_of-out : goal.shape_of-out
-shape_of-out c = at_length c.loop-depth.invariant.wrote
+pub loop-below-preserved : goal.loop-below-preserved
+loop-below-preserved c = printing_more _ (omega arith) (rw c.in-Some.ensures.steps at c.loop-below.invariant) c.put_premise-done.ensures
 
 pub returns : goal.returns
-returns c = let n : length c.path_of-path.result.nodes ≡ depth_most = search rules in printing_done _ _ n c.path_of-path.ensures.few _ c.requires.promise _ c.requires.inside c.path_of-path.ensures.is (omega arith) c.loop-depth.invariant
+returns c = printing_done (nil_from_length _ c.in-None.ensures.steps.0) c.loop-below.invariant

@@ -1,33 +1,19 @@
-use Rattle.book.specs.Book.{depth_most}
-use Rattle.basics.proofs.Laws.{wrote_length}
-use Rattle.traces.proofs.Printing.{printing_start, printing_more, printing_done}
-use Rattle.contexts.proofs.PathLines.{node_below, node_fits}
-use lib.ListN.{length}
-use mathlib.Core.Path.{◌≡◌}
 use native.Mathlib.Omega.{arith}
-use borrow.Author.Rules.{rules}
+use Rattle.std.proofs.lemmas.List.{nil_from_length}
+use Rattle.contexts.proofs.FromRoot.{on_path}
+use Rattle.rsolver.specs.Trace.{print_trace}
+use Rattle.traces.proofs.Printing.{printing_start, printing_more, printing_done}
 use Rattle.traces.proofs.print_trace.Goals as goal
 
-pub loop-depth-init : goal.loop-depth-init
-loop-depth-init c = printing_start _ _ _ _
-
-pub offset_bounds-nodes-depth : goal.offset_bounds-nodes-depth
-offset_bounds-nodes-depth c = omega (arith, c.loop-depth.invariant.within, c.path_of-path.ensures.few)
-
-pub bounds-nodes-depth : goal.bounds-nodes-depth
-bounds-nodes-depth c = omega (arith, c.loop-depth.invariant.within, c.path_of-path.ensures.few)
-
-pub overflow_cast-nodes : goal.overflow_cast-nodes
-overflow_cast-nodes c = let n : length c.path_of-path.result.nodes ≡ depth_most = search rules in node_fits _ _ n c.path_of-path.ensures.few _ c.requires.promise _ c.requires.inside c.path_of-path.ensures.is _ (omega (arith, c.loop-depth.invariant.within))
+pub loop-below-init : goal.loop-below-init
+loop-below-init c = printing_start _ _ _ (rw (c.into_iter-below-iterator.ensures.into_iter_gives, c.rev-below-items.ensures.source, c.iter.ensures.rest, c.as_slice.ensures.value) c.path_of-path.ensures.is)
 
 pub trace_line-line-requires : goal.trace_line-line-requires
-trace_line-line-requires c = let n : length c.path_of-path.result.nodes ≡ depth_most = search rules in node_below _ _ n c.path_of-path.ensures.few _ c.requires.promise _ c.requires.inside c.path_of-path.ensures.is _ (omega (arith, c.loop-depth.invariant.within))
+trace_line-line-requires c = let w = c.loop-below.invariant in on_path _ c.requires.promise _ c.requires.inside _ _ _ (rw c.in-Some.ensures.steps at w.is)
 
-pub loop-depth-preserved : goal.loop-depth-preserved
-loop-depth-preserved c = let n : length c.path_of-path.result.nodes ≡ depth_most = search rules in printing_more _ _ n c.path_of-path.ensures.few (omega arith) c.loop-depth.invariant (omega arith) c.clip-k.ensures c.trace_line-line.ensures c.sum-written.ensures
-
-pub shape_of-out : goal.shape_of-out
-shape_of-out c = wrote_length c.loop-depth.invariant.wrote
+pub loop-below-preserved : goal.loop-below-preserved
+loop-below-preserved c = printing_more _ (omega arith) (rw c.in-Some.ensures.steps at c.loop-below.invariant) c.clip-k.ensures c.trace_line-line.ensures c.sum-written.ensures
 
 pub returns : goal.returns
-returns c = let n : length c.path_of-path.result.nodes ≡ depth_most = search rules in printing_done _ _ n c.path_of-path.ensures.few _ c.requires.promise _ c.requires.inside c.path_of-path.ensures.is (omega arith) c.loop-depth.invariant
+unfolding print_trace
+returns c = printing_done (nil_from_length _ c.in-None.ensures.steps.0) c.loop-below.invariant

@@ -1,44 +1,28 @@
-use Rattle.book.specs.Book.{depth_most}
-use Rattle.engine.proofs.Entering.{same_wide}
-use Rattle.basics.proofs.Places.{at_length}
-use mathlib.Core.Path.{◌≡◌}
-use lib.ListN.{length}
 use native.Mathlib.Omega.{arith}
-use Rattle.engine.proofs.Descending.{descending_start, next_above, descending_more, descending_done}
+use mathlib.Core.Path.{◌∙◌}
+use Rattle.engine.proofs.Descending.{descending_start, next_above, descending_more}
 use Rattle.engine.proofs.Entering.{depth_is}
-use Rattle.contexts.proofs.PathLines.{node_fits}
-use borrow.Author.Rules.{rules}
 use Rattle.engine.proofs.enter.descend.Goals as goal
 
 pub loop-k-init : goal.loop-k-init
 loop-k-init c = descending_start _ _ _ _ (omega arith) c.requires.state
 
 pub overflow_sub-level : goal.overflow_sub-level
-overflow_sub-level c = let n : length c.path_of-path.result.nodes ≡ depth_most = search rules in let d = depth_is _ _ _ _ c.path_of-path.ensures.is n c.path_of-path.ensures.few in omega (arith, d, c.requires.few, c.loop-k.invariant.few)
-
-pub overflow_cast-level : goal.overflow_cast-level
-overflow_cast-level c = omega (arith, c.path_of-path.ensures.few)
+overflow_sub-level c = let d = depth_is _ _ (c.as_slice-nodes.ensures.value ∙ c.path_of-path.ensures.is) in omega (arith, d, c.requires.few, c.loop-k.invariant.few)
 
 pub offset_bounds-nodes-k : goal.offset_bounds-nodes-k
-offset_bounds-nodes-k c = let n : length c.path_of-path.result.nodes ≡ depth_most = search rules in let d = depth_is _ _ _ _ c.path_of-path.ensures.is n c.path_of-path.ensures.few in omega (arith, d, c.requires.few, c.loop-k.invariant.few, c.path_of-path.ensures.few)
+offset_bounds-nodes-k c = let d = depth_is _ _ (c.as_slice-nodes.ensures.value ∙ c.path_of-path.ensures.is) in omega (arith, d, c.requires.few, c.loop-k.invariant.few)
 
 pub bounds-nodes-k : goal.bounds-nodes-k
-bounds-nodes-k c = let n : length c.path_of-path.result.nodes ≡ depth_most = search rules in let d = depth_is _ _ _ _ c.path_of-path.ensures.is n c.path_of-path.ensures.few in omega (arith, d, c.requires.few, c.loop-k.invariant.few, c.path_of-path.ensures.few)
-
-pub overflow_cast-nodes : goal.overflow_cast-nodes
-overflow_cast-nodes c = let n : length c.path_of-path.result.nodes ≡ depth_most = search rules in let d = depth_is _ _ _ _ c.path_of-path.ensures.is n c.path_of-path.ensures.few in node_fits _ _ n c.path_of-path.ensures.few _ c.requires.promise _ c.requires.inside c.path_of-path.ensures.is _ (omega (arith, d, c.requires.few, c.loop-k.invariant.few, c.path_of-path.ensures.few))
+bounds-nodes-k c = let d = depth_is _ _ (c.as_slice-nodes.ensures.value ∙ c.path_of-path.ensures.is) in omega (arith, d, c.requires.few, c.loop-k.invariant.few)
 
 pub enter-done-requires : goal.enter-done-requires
-enter-done-requires c = let n : length c.path_of-path.result.nodes ≡ depth_most = search rules in let d = depth_is _ _ _ _ c.path_of-path.ensures.is n c.path_of-path.ensures.few in next_above _ c.requires.promise _ c.requires.inside _ c.path_of-path.result.nodes c.path_of-path.result.depth c.path_of-path.ensures.is c.requires.few c.loop-k-test.true (omega (arith, d, c.requires.few, c.loop-k.invariant.few)) c.loop-k.invariant (omega (arith, d, c.path_of-path.ensures.few))
+enter-done-requires c =
+    let is = c.as_slice-nodes.ensures.value ∙ c.path_of-path.ensures.is in
+    let d = depth_is _ _ is in
+    next_above _ c.requires.promise _ c.requires.inside _ _ is c.requires.few (omega arith) c.loop-k.invariant (omega (arith, d))
 
 pub loop-k-preserved : goal.loop-k-preserved
-loop-k-preserved c = let n : length c.path_of-path.result.nodes ≡ depth_most = search rules in let d = depth_is _ _ _ _ c.path_of-path.ensures.is n c.path_of-path.ensures.few in descending_more _ c.requires.promise _ c.requires.inside _ c.path_of-path.result.nodes c.path_of-path.result.depth c.path_of-path.ensures.is c.requires.few c.loop-k-test.true (omega (arith, d, c.requires.few, c.loop-k.invariant.few)) c.loop-k.invariant (omega arith) c.enter-done.ensures
-
-pub shape_of-levels : goal.shape_of-levels
-shape_of-levels c = same_wide c.requires.promise _ _ c.requires.state.levels c.loop-k.invariant.state.levels
-
-pub shape_of-out : goal.shape_of-out
-shape_of-out c = at_length c.loop-k.invariant.text
-
-pub returns : goal.returns
-returns c = descending_done _ c.requires.promise _ c.requires.inside _ c.path_of-path.result.nodes c.path_of-path.result.depth c.path_of-path.ensures.is c.requires.few (omega (arith, c.loop-k-test.false)) c.loop-k.invariant
+loop-k-preserved c =
+    descending_more _ c.requires.promise _ c.requires.inside _ _ (c.as_slice-nodes.ensures.value ∙ c.path_of-path.ensures.is) c.requires.few (omega arith) c.loop-k.invariant (omega arith)
+    c.enter-done.ensures

@@ -3,6 +3,3 @@ use Rattle.engine.proofs.enter.descend.Given as goal
 
 abbrev pub invariant-loop-k : goal.invariant-loop-k
 invariant-loop-k l = Descending l.book l.node l.count l.k l.levels l.initial.done l.done l.initial.out l.out
-
-abbrev pub decreases-loop-k : goal.decreases-loop-k
-decreases-loop-k l = l.k
