@@ -1,4 +1,3 @@
 pub mod Climb
 pub mod Shared
 pub mod FromRoot
-pub mod PathLines

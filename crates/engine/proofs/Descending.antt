@@ -4,7 +4,7 @@ use native.Mathlib.Omega.{arith}
 use mathlib.Core.Path.{◌≡◌, refl, sym, ap, ◌∙◌, subst}
 use mathlib.Core.List.{List, [], ◌∷◌, ◌++◌, reverse, reverse-cons, append_assoc, append-nil}
 use lib.ListN.{length, get_or, take, drop, length-drop}
-use lib.Seq.{drop-cons, get_or-take}
+use lib.Seq.{drop-cons}
 use Rattle.basics.specs.Write.{MOST, WroteAt}
 use Rattle.basics.proofs.All.{all-at}
 use Rattle.basics.proofs.Places.{at_none, at_as}
@@ -55,35 +55,35 @@ down_more p q count k n h l e =
     ∙ entering_append p (reverse (take (count - k) (drop k q))) (n ∷ [])
     ∙ ap {B = List Command} (λ (l : List Command). down_to p q count k ++ l) (append-nil (Push ∷ node_commands p n))
 
-module _ (b : Book) (P : Promise b) (node : ℕ) (inside : node ≤ size b contexts) (count : ℕ) (nodes : List ℕ) (long : ℕ)
-    (is : take long nodes ≡ path (program b) node) (few : count ≤ depth (program b) node) where
+module _ (b : Book) (P : Promise b) (node : ℕ) (inside : node ≤ size b contexts) (count : ℕ) (nodes : List ℕ) (is : nodes ≡ path (program b) node)
+    (few : count ≤ depth (program b) node) where
   q_length : length (path (program b) node) ≡ depth (program b) node
   unfolding depth
   q_length = refl
 
-  head : (k : ℕ) → 0 < k → k ≤ long → get_or (path (program b) node) (k - 1) 0 ≡ get_or nodes (k - 1) 0
-  head k h m = ap (λ (ns : List ℕ). get_or ns (k - 1) 0) (sym is) ∙ get_or-take long nodes (k - 1) 0 (omega arith)
+  head : (k : ℕ) → get_or (path (program b) node) (k - 1) 0 ≡ get_or nodes (k - 1) 0
+  head k = ap (λ (ns : List ℕ). get_or ns (k - 1) 0) (sym is)
 
   -- the next node stands before what is left of the path
-  next_node : (k : ℕ) → 0 < k → k ≤ count → k ≤ long → drop (k - 1) (path (program b) node) ≡ get_or nodes (k - 1) 0 ∷ drop k (path (program b) node)
-  next_node k h l m =
+  next_node : (k : ℕ) → 0 < k → k ≤ count → drop (k - 1) (path (program b) node) ≡ get_or nodes (k - 1) 0 ∷ drop k (path (program b) node)
+  next_node k h l =
       let q = path (program b) node in
       let e : suc (k - 1) ≡ k = omega arith in
-      drop-cons q (k - 1) 0 (omega (arith, q_length, few)) ∙ (λ i. head k h m i ∷ drop (e i) q)
+      drop-cons q (k - 1) 0 (omega (arith, q_length, few)) ∙ (λ i. head k i ∷ drop (e i) q)
 
-  chained : (k : ℕ) → 0 < k → k ≤ count → k ≤ long → Chain (program b) (get_or nodes (k - 1) 0 ∷ drop k (path (program b) node))
-  chained k h l m = subst (Chain (program b)) (next_node k h l m) (chain_drop (program b) (k - 1) (path (program b) node) (chain (program b) (good b P).parents node))
+  chained : (k : ℕ) → 0 < k → k ≤ count → Chain (program b) (get_or nodes (k - 1) 0 ∷ drop k (path (program b) node))
+  chained k h l = subst (Chain (program b)) (next_node k h l) (chain_drop (program b) (k - 1) (path (program b) node) (chain (program b) (good b P).parents node))
 
-  module _ {k : ℕ} {ls : List ℕ} {so done : Progress} {o o1 : List ℕ} (h : 0 < k) (m : k ≤ long) (d : Descending b node count k ls so done o o1) where
+  module _ {k : ℕ} {ls : List ℕ} {so done : Progress} {o o1 : List ℕ} (h : 0 < k) (d : Descending b node count k ls so done o o1) where
     pub next_above : {level : ℕ} → level ≡ depth (program b) node - (k - 1) → Above b (get_or nodes (k - 1) 0) level ls done
     next_above {level} e =
         let q = path (program b) node in
-        let c = chained k h d.few m in
+        let c = chained k h d.few in
         let r = all-at (path_below (program b) (good b P).parents node) (k - 1) 0 (omega (arith, q_length, d.few, few)) in
         let u : length (path (program b) (node_at (program b) (get_or nodes (k - 1) 0)).parent) ≡ length q - k = sym (ap length c.1) ∙ length-drop k q in
         record {
           promise = P;
-          inside = omega (arith, r.1, head k h m, inside);
+          inside = omega (arith, r.1, head k, inside);
           below = c.0;
           level = omega (arith, e, u, q_length, d.few, few);
           state = subst (λ (ns : List ℕ). IsState (standing (program b) ns) ls done) c.1 d.state;
@@ -93,12 +93,12 @@ module _ (b : Book) (P : Promise b) (node : ℕ) (inside : node ≤ size b conte
     descending_more {ls'} {r} {o2} short f =
         let q = path (program b) node in
         let n = get_or nodes (k - 1) 0 in
-        let c = chained k h d.few m in
-        let there : path (program b) n ≡ drop (k - 1) q = sym c.2 ∙ sym (next_node k h d.few m) in
+        let c = chained k h d.few in
+        let there : path (program b) n ≡ drop (k - 1) q = sym c.2 ∙ sym (next_node k h d.few) in
         record {
           few = omega (arith, d.few);
           state = subst (λ (ns : List ℕ). IsState (standing (program b) ns) ls' r) there f.state;
-          text = at_as (ap script (sym (down_more (program b) q count k n h d.few (next_node k h d.few m)))) (said_then _ _ short d.text f.text);
+          text = at_as (ap script (sym (down_more (program b) q count k n h d.few (next_node k h d.few)))) (said_then _ _ short d.text f.text);
         }
 
   pub descending_done : {k : ℕ} {ls : List ℕ} {so done : Progress} {o o1 : List ℕ} → k ≡ 0 → Descending b node count k ls so done o o1 → Descended b node count ls so o o1 done

@@ -105,9 +105,9 @@ pub ready : {b : Book} (P : Promise b) (ns : List ℕ) {level k : ℕ} {ls : Lis
 ready {b} P ns e f = record { promise = P; deep = omega arith; wide = ap length f ∙ levels_length (program b) (good b P) ns }
 
 -- the length of a path, as the code has it
-pub depth_is : (b : Book) (node d : ℕ) (nodes : List ℕ) → take d nodes ≡ path (program b) node → length nodes ≡ depth_most → d ≤ depth_most → d ≡ depth (program b) node
+pub depth_is : (b : Book) (node : ℕ) {nodes : List ℕ} → nodes ≡ path (program b) node → length nodes ≡ depth (program b) node
 unfolding depth
-depth_is b node d nodes e l h = omega (arith, ap length e, length-take d nodes)
+depth_is b node e = ap length e
 
 pub same_wide : {b : Book} (P : Promise b) (ns ns' : List ℕ) {ls ls' : List ℕ} → ls ≡ (standing (program b) ns).levels → ls' ≡ (standing (program b) ns').levels → length ls' ≡ length ls
 same_wide {b} P ns ns' e f = ap length f ∙ levels_length (program b) (good b P) ns' ∙ sym (ap length e ∙ levels_length (program b) (good b P) ns)

@@ -17,7 +17,7 @@ pub fn depth_of(book: &[u8], node: usize) -> usize
     requires { IsNode book.now node }
     ensures { result ≡ depth (program book.now) node }
 {
-    path_of(book, node).depth
+    path_of(book, node).len()
 }
 
 fn pop_times(count: usize, out: &mut [u8]) -> usize

@@ -45,10 +45,11 @@ pub fn descend(
     ensures { Descended book.now node count levels.new so out.old out.new result }
 {
     let path = path_of(book, node);
+    let nodes = path.as_slice();
     let mut done = so;
     for k in (0..count).rev() {
-        let level = (path.depth - k) as Level;
-        done = enter(book, path.nodes[k] as usize, level, levels, done, out);
+        let level = (nodes.len() - k) as Level;
+        done = enter(book, nodes[k] as usize, level, levels, done, out);
     }
     done
 }

@@ -1,12 +1,14 @@
 // The calls of the writer: what is appended to a book, and the grown book in a buffer of its own.
 ghost use Rattle.std.specs.Prelude.{◌≡◌};
 ghost use Rattle.new_records.specs.Drafts.{new_term};
+ghost use Rattle.new_records.specs.NewNames.{maybe_text};
 ghost use Rattle.basics.specs.Text.{given};
 ghost use Rattle.book_writer.specs.Growths.{append_name, append_constant, append_term, append_node, extend, extend_with_equality, record_term, record_trace_point};
 ghost use Rattle.book_writer.specs.Writing.{lent, grow_call, appended_value};
 ghost use Rattle.leskofar.specs.Exports.{flag, appended};
 
 use super::ACCEPTED;
+use book::Refusal;
 use book_writer::{
     Appended, TermFields, append_constant, append_name, append_node, append_term, extend,
     extend_with_equality, record, record_trace_point,
@@ -22,21 +24,28 @@ pub struct AppendAnswered {
     pub length: u64,
 }
 
-fn answer(a: Appended) -> AppendAnswered
+fn answer(a: Result<Appended, Refusal>) -> AppendAnswered
     ensures { result ≡ appended (appended_value a) }
 {
     match a {
-        Appended::Record(n, length) => AppendAnswered {
+        Ok(new) => AppendAnswered {
             refusal: ACCEPTED,
-            number: n,
-            length: length as u64,
+            number: new.number,
+            length: new.length as u64,
         },
-        Appended::Refused(r) => AppendAnswered {
-            refusal: number(r),
+        Err(why) => AppendAnswered {
+            refusal: number(why),
             number: 0,
             length: 0,
         },
     }
+}
+
+// A trace under C's flag that says whether it came.
+fn came<'a>(traced: u32, trace: &'a [u8]) -> Option<&'a [u8]>
+    ensures { maybe_text result ≡ given (flag traced) trace.now }
+{
+    if traced == 0 { None } else { Some(trace) }
 }
 
 #[unsafe(no_mangle)]
@@ -91,13 +100,13 @@ pub extern "C" fn leskofar_append_term<'a>(
         book,
         scratch,
         TermFields {
-            kind: kind,
-            field1: field1,
-            field2: field2,
-            field3: field3,
-            field4: field4,
-            field5: field5,
-            field6: field6,
+            kind,
+            field1,
+            field2,
+            field3,
+            field4,
+            field5,
+            field6,
         },
         first,
         second,
@@ -135,7 +144,7 @@ pub extern "C" fn leskofar_extend<'a>(
     ensures book { out.new ≡ (grow_call book.now (lent (extend parent term (given (flag traced) trace.now)) scratch.old out.old)).buffer }
     ensures scratch { scratch.new ≡ (grow_call book.now (lent (extend parent term (given (flag traced) trace.now)) scratch.old out.old)).scratch }
 {
-    answer(extend(book, scratch, parent, term, traced != 0, trace, out))
+    answer(extend(book, scratch, parent, term, came(traced, trace), out))
 }
 
 #[unsafe(no_mangle)]
@@ -169,7 +178,7 @@ pub extern "C" fn leskofar_record<'a>(
     ensures book { out.new ≡ (grow_call book.now (lent (record_term parent term typ (given (flag traced) trace.now)) scratch.old out.old)).buffer }
     ensures scratch { scratch.new ≡ (grow_call book.now (lent (record_term parent term typ (given (flag traced) trace.now)) scratch.old out.old)).scratch }
 {
-    answer(record(book, scratch, parent, term, typ, traced != 0, trace, out))
+    answer(record(book, scratch, parent, term, typ, came(traced, trace), out))
 }
 
 #[unsafe(no_mangle)]

@@ -42,7 +42,7 @@ fn print_context(book: &[u8], node: usize, at: usize, out: &mut [u8]) -> usize
 {
     let path = contexts::path_of(book, node);
     let mut done = at;
-    for below in path.nodes[..path.depth].iter().rev() {
+    for below in path.as_slice().iter().rev() {
         done = put_premise(book, *below as usize, done, out);
     }
     done

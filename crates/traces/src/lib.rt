@@ -47,7 +47,7 @@ fn print_trace(book: &[u8], node: usize, out: &mut [u8]) -> usize
 {
     let path = contexts::path_of(book, node);
     let mut written = 0;
-    for below in path.nodes[..path.depth].iter().rev() {
+    for below in path.as_slice().iter().rev() {
         let k = basics::clip(written, out.len());
         let line = trace_line(book, *below as usize, &mut out[k..]);
         written = basics::sum(written, line);

@@ -5,7 +5,7 @@ use Rattle.listing.proofs.Premises.{printing_start, printing_more, printing_done
 use Rattle.listing.proofs.print_context.Goals as goal
 
 pub loop-below-init : goal.loop-below-init
-loop-below-init c = printing_start _ _ _ (rw (c.into_iter-below-iterator.ensures.into_iter_gives, c.rev-below-items.ensures.source, c.iter.ensures.rest) c.path_of-path.ensures.is) (omega arith)
+loop-below-init c = printing_start _ _ _ (rw (c.into_iter-below-iterator.ensures.into_iter_gives, c.rev-below-items.ensures.source, c.iter.ensures.rest, c.as_slice.ensures.value) c.path_of-path.ensures.is) (omega arith)
 
 pub put_premise-done-requires : goal.put_premise-done-requires
 put_premise-done-requires c = let w = c.loop-below.invariant in on_path _ c.requires.promise _ c.requires.inside _ _ _ (rw c.in-Some.ensures.steps at w.is)

@@ -6,7 +6,7 @@ use Rattle.traces.proofs.Printing.{printing_start, printing_more, printing_done}
 use Rattle.traces.proofs.print_trace.Goals as goal
 
 pub loop-below-init : goal.loop-below-init
-loop-below-init c = printing_start _ _ _ (rw (c.into_iter-below-iterator.ensures.into_iter_gives, c.rev-below-items.ensures.source, c.iter.ensures.rest) c.path_of-path.ensures.is)
+loop-below-init c = printing_start _ _ _ (rw (c.into_iter-below-iterator.ensures.into_iter_gives, c.rev-below-items.ensures.source, c.iter.ensures.rest, c.as_slice.ensures.value) c.path_of-path.ensures.is)
 
 pub trace_line-line-requires : goal.trace_line-line-requires
 trace_line-line-requires c = let w = c.loop-below.invariant in on_path _ c.requires.promise _ c.requires.inside _ _ _ (rw c.in-Some.ensures.steps at w.is)

@@ -5,10 +5,10 @@ use Rattle.leskofar.specs.Exports.{appended}
 use Rattle.book_writer.specs.Writing.{appended_value}
 use Rattle.leskofar.proofs.writer_calls.answer.Goals as goal
 
-pub returns-in-Record : goal.returns-in-Record
+pub returns-in-Ok : goal.returns-in-Ok
 unfolding appended appended_value
-returns-in-Record c = cc
+returns-in-Ok c = cc
 
-pub returns-in-Refused : goal.returns-in-Refused
+pub returns-in-Err : goal.returns-in-Err
 unfolding appended appended_value
-returns-in-Refused c = ap (λ (n : ℕ). appended (refused n)) c.number.ensures ∙ sym (ap appended (ap appended_value c.in-Refused.is))
+returns-in-Err c = ap (λ (n : ℕ). appended (refused n)) c.number.ensures ∙ sym (ap appended (ap appended_value c.in-Err.is))

@@ -3,4 +3,6 @@ use Rattle.leskofar.specs.Exports.{appended}
 use Rattle.leskofar.proofs.writer_calls.leskofar_record.Goals as goal
 
 pub returns : goal.returns
-returns c = record { answer = c.answer.ensures ∙ ap appended c.record.ensures.answer; book = c.record.ensures.buffer'; scratch = c.record.ensures.scratch'' }
+returns c =
+    let told = rw c.came.ensures at c.record.ensures in
+    record { answer = c.answer.ensures ∙ ap appended told.answer; book = told.buffer'; scratch = told.scratch'' }
