@@ -16,11 +16,6 @@ module _ {b : Book} (P : Promise b) {t : ℕ} (here : t < size b terms) {k : ℕ
   is = shape P here kind
 
   -- an application, built-in or not
-  pub application_kind : (k ≡ 0 → ⊥) → (k ≡ 1 → ⊥) → (k ≡ 2 → ⊥) → (k ≡ 3 → ⊥) → (k ≡ 6 → ⊥) → (k ≡ 7 → ⊥) → (k ≡ 8 → ⊥) → (4 ≤ k) × (k ≤ 5)
-  application_kind h0 h1 h2 h3 h6 h7 h8 =
-      each_kind k (known P here kind) (λ e. absurd (h0 e)) (λ e. absurd (h1 e)) (λ e. absurd (h2 e)) (λ e. absurd (h3 e)) (λ e. (omega arith, omega arith)) (λ e. (omega arith, omega arith))
-      (λ e. absurd (h6 e)) (λ e. absurd (h7 e)) (λ e. absurd (h8 e))
-
   either : {A : Type 0} → 4 ≤ k → k ≤ 5 → (k ≡ 4 → A) → (k ≡ 5 → A) → A
   either l m f g =
       each_kind k (known P here kind) (λ e. absurd (omega arith)) (λ e. absurd (omega arith)) (λ e. absurd (omega arith)) (λ e. absurd (omega arith)) f g (λ e. absurd (omega arith))

@@ -1,5 +1,5 @@
 // RExpr.ToString: the cycle of calls. What falls is the term's number.
-ghost use Rattle.std.specs.Prelude.{◌<◌};
+ghost use Rattle.std.specs.Prelude.{◌<◌, ◌≤◌};
 ghost use Rattle.basics.specs.Write.{WroteAt};
 ghost use Rattle.book.specs.Book.{terms, size, field};
 ghost use Rattle.book.specs.Decode.{term};
@@ -14,15 +14,14 @@ use super::leaves::{
     put_boolean, put_closing, put_integer, put_lead, put_quantifier_opening,
 };
 use basics::put_at;
-use book::field;
 use book::format::{
-    ARGUMENTS, ARGUMENTS_COUNT, BOOLEAN, CONSTANT_NAME, CONSTANTS, CUSTOM_LITERAL, ID, ID_CONSTANT,
-    IF_ELSE, IF_GUARD, IF_THEN, IF_THEN_ELSE, INTEGER, KIND, LET_BODY, LET_CONSTANT, LET_EXPR,
-    LET_RHS, LISTED, LISTS, PATTERN_COUNT, PATTERN_TERMS, PATTERNS, QUANTIFIER_BODY,
-    QUANTIFIER_CONSTANTS, QUANTIFIER_CONSTANTS_COUNT, QUANTIFIER_EXPR, QUANTIFIER_PATTERNS,
+    ARGUMENTS, ARGUMENTS_COUNT, CONSTANT_NAME, CONSTANTS, ID_CONSTANT, IF_ELSE, IF_GUARD, IF_THEN,
+    LET_BODY, LET_CONSTANT, LET_RHS, LISTED, LISTS, PATTERN_COUNT, PATTERN_TERMS, PATTERNS,
+    QUANTIFIER_BODY, QUANTIFIER_CONSTANTS, QUANTIFIER_CONSTANTS_COUNT, QUANTIFIER_PATTERNS,
     QUANTIFIER_PATTERNS_COUNT, TERMS,
 };
-use records::named;
+use book::{Kind, field};
+use records::{kind_of, named};
 
 // Term t. A last child is printed in its turn, and its parenthesis closes with the others: only a child before other parts costs a call.
 #[cycle(terms)]
@@ -54,22 +53,30 @@ fn put_front(book: &[u8], t: usize, at: usize, out: &mut [u8]) -> Front
     requires { Promise book.now × (t < size book.now terms) }
     ensures { Fronted book.now (rexpr_to_string (term book.now t)) t at out.old out.new result }
 {
-    match field(book, TERMS, t, KIND) {
-        BOOLEAN => Front::Whole(put_boolean(book, t, at, out)),
-        INTEGER => Front::Whole(put_integer(book, t, at, out)),
-        CUSTOM_LITERAL => Front::Whole(custom_literal_to_string(book, t, at, out)),
-        ID => {
+    match kind_of(book, t) {
+        Kind::Boolean => Front::Whole(put_boolean(book, t, at, out)),
+        Kind::Integer => Front::Whole(put_integer(book, t, at, out)),
+        Kind::CustomLiteral => Front::Whole(custom_literal_to_string(book, t, at, out)),
+        Kind::Id => {
             let v = field(book, TERMS, t, ID_CONSTANT);
             Front::Whole(put_at(named(book, CONSTANTS, v, CONSTANT_NAME), at, out))
         }
-        IF_THEN_ELSE => put_if(book, t, at, out),
-        LET_EXPR => put_let(book, t, at, out),
-        QUANTIFIER_EXPR => put_quantifier(book, t, at, out),
-        _ => {
-            let name = operator_to_string(book, t, at, out);
-            put_arguments(book, t, name, out)
-        }
+        Kind::BuiltIn => put_application(book, t, at, out),
+        Kind::Application => put_application(book, t, at, out),
+        Kind::IfThenElse => put_if(book, t, at, out),
+        Kind::LetExpr => put_let(book, t, at, out),
+        Kind::QuantifierExpr => put_quantifier(book, t, at, out),
     }
+}
+
+// An application, built-in or not.
+#[cycle(terms)]
+fn put_application(book: &[u8], t: usize, at: usize, out: &mut [u8]) -> Front
+    requires { Promise book.now × (t < size book.now terms) × (4 ≤ field book.now terms t 0) × (field book.now terms t 0 ≤ 5) }
+    ensures { Fronted book.now (rexpr_to_string (term book.now t)) t at out.old out.new result }
+{
+    let name = operator_to_string(book, t, at, out);
+    put_arguments(book, t, name, out)
 }
 
 // The arguments of application t.

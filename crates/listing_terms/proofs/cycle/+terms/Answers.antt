@@ -1,11 +1,11 @@
 use Prim.Native.Nat.{◌-◌}
 use native.Mathlib.Omega.{arith}
-use mathlib.Core.Path.{◌≡◌}
+use mathlib.Core.Path.{◌≡◌, refl}
 use Rattle.basics.proofs.Places.{at_then, at_as, at_length}
 use Rattle.records.proofs.Readers.{reads_list, reads_term, reads_pattern, named_constant}
 use Rattle.listing_terms.proofs.Lists.{terms_none, terms_more, patterns_none, patterns_more, fewer}
 use Rattle.book_test.proofs.TermKinds.{good_literal, good_id, good_if, good_let, good_quantifier}
-use Rattle.listing_terms.proofs.Shapes.{good_arguments, application_kind, of_boolean, of_integer, of_literal, of_id, of_application, of_if, of_let, of_quantifier}
+use Rattle.listing_terms.proofs.Shapes.{good_arguments, of_boolean, of_integer, of_literal, of_id, of_application, of_if, of_let, of_quantifier}
 use Rattle.listing_terms.proofs.Fronts.{whole, before, fronted_as, fronted_then, no_arguments, some_arguments, if_is, let_is, quantifier_is, turning_start, turning_falls, turning_more, turning_done}
 use Rattle.listing_terms.proofs.cycle.+terms.Goals as goal
 
@@ -54,8 +54,8 @@ put_arguments-field-requires t c = reads_list c.requires.0 (omega (arith, c.fiel
 pub put_arguments-returns : goal.put_arguments-returns
 put_arguments-returns t c = let short = c.well_formed.1.1.1.0.0 in before _ _ (some_arguments _ _ c.field-start.ensures.is c.field-count.ensures.is c.if-count-eq0.false c.field.ensures.is) (at_then short (at_then short c.put_at-open.ensures c.rexpr_list_to_string-before.ensures) c.put_lead-n.ensures) (rw (c.field.ensures.is, c.field-start.ensures.is) (c.requires.2.below _ (omega (arith, c.field-count.ensures.is, c.if-count-eq0.false))))
 
-pub put_front-field-requires : goal.put_front-field-requires
-put_front-field-requires t c = reads_term c.requires.0 0 (omega arith) c.requires.1
+pub put_front-kind_of-requires : goal.put_front-kind_of-requires
+put_front-kind_of-requires t c = (c.requires.0, c.requires.1)
 
 pub put_front-put_boolean-requires : goal.put_front-put_boolean-requires
 put_front-put_boolean-requires t c = (c.requires.0, c.requires.1)
@@ -64,52 +64,58 @@ pub put_front-put_integer-requires : goal.put_front-put_integer-requires
 put_front-put_integer-requires t c = (c.requires.0, c.requires.1)
 
 pub put_front-custom_literal_to_string-requires : goal.put_front-custom_literal_to_string-requires
-put_front-custom_literal_to_string-requires t c = (c.requires.0, c.requires.1, good_literal c.requires.0 c.requires.1 c.field.ensures.is c.in-2.is)
+put_front-custom_literal_to_string-requires t c = (c.requires.0, c.requires.1, good_literal c.requires.0 c.requires.1 c.in-CustomLiteral.ensures refl)
 
 pub put_front-field-v-requires : goal.put_front-field-v-requires
 put_front-field-v-requires t c = reads_term c.requires.0 1 (omega arith) c.requires.1
 
 pub put_front-named-requires : goal.put_front-named-requires
-put_front-named-requires t c = named_constant c.requires.0 (rw c.field-v.ensures.is (good_id c.requires.0 c.requires.1 c.field.ensures.is c.in-3.is))
+put_front-named-requires t c = named_constant c.requires.0 (rw c.field-v.ensures.is (good_id c.requires.0 c.requires.1 c.in-Id.ensures refl))
 
 pub put_front-put_if-requires : goal.put_front-put_if-requires
-put_front-put_if-requires t c = (omega (arith, c.decreases), (c.requires.0, c.requires.1, good_if c.requires.0 c.requires.1 c.field.ensures.is c.in-6.is))
+put_front-put_if-requires t c = (omega (arith, c.decreases), (c.requires.0, c.requires.1, good_if c.requires.0 c.requires.1 c.in-IfThenElse.ensures refl))
 
 pub put_front-put_let-requires : goal.put_front-put_let-requires
-put_front-put_let-requires t c = (omega (arith, c.decreases), (c.requires.0, c.requires.1, good_let c.requires.0 c.requires.1 c.field.ensures.is c.in-7.is))
+put_front-put_let-requires t c = (omega (arith, c.decreases), (c.requires.0, c.requires.1, good_let c.requires.0 c.requires.1 c.in-LetExpr.ensures refl))
 
 pub put_front-put_quantifier-requires : goal.put_front-put_quantifier-requires
-put_front-put_quantifier-requires t c = (omega (arith, c.decreases), (c.requires.0, c.requires.1, good_quantifier c.requires.0 c.requires.1 c.field.ensures.is c.in-8.is))
+put_front-put_quantifier-requires t c = (omega (arith, c.decreases), (c.requires.0, c.requires.1, good_quantifier c.requires.0 c.requires.1 c.in-QuantifierExpr.ensures refl))
 
-pub put_front-operator_to_string-name-requires : goal.put_front-operator_to_string-name-requires
-put_front-operator_to_string-name-requires t c = let h = application_kind c.requires.0 c.requires.1 c.field.ensures.is c.in_default.in_default-own.rest.0.0.0.0.0.0.1 c.in_default.in_default-own.rest.0.0.0.0.0.1 c.in_default.in_default-own.rest.0.0.0.0.1 c.in_default.in_default-own.rest.0.0.0.1 c.in_default.in_default-own.rest.0.0.1 c.in_default.in_default-own.rest.0.1 c.in_default.in_default-own.rest.1 in (c.requires.0, c.requires.1, rw (← c.field.ensures.is) h.0, rw (← c.field.ensures.is) h.1)
+pub put_front-put_application-requires : goal.put_front-put_application-requires
+put_front-put_application-requires t c = (omega (arith, c.decreases), (c.requires.0, c.requires.1, omega (arith, c.in-BuiltIn.ensures), omega (arith, c.in-BuiltIn.ensures)))
 
-pub put_front-put_arguments-requires : goal.put_front-put_arguments-requires
-put_front-put_arguments-requires t c = let h = application_kind c.requires.0 c.requires.1 c.field.ensures.is c.in_default.in_default-own.rest.0.0.0.0.0.0.1 c.in_default.in_default-own.rest.0.0.0.0.0.1 c.in_default.in_default-own.rest.0.0.0.0.1 c.in_default.in_default-own.rest.0.0.0.1 c.in_default.in_default-own.rest.0.0.1 c.in_default.in_default-own.rest.0.1 c.in_default.in_default-own.rest.1 in (omega (arith, c.decreases), (c.requires.0, c.requires.1, good_arguments c.requires.0 c.requires.1 c.field.ensures.is h.0 h.1))
+pub put_front-put_application-requires-in-Application : goal.put_front-put_application-requires-in-Application
+put_front-put_application-requires-in-Application t c = (omega (arith, c.decreases), (c.requires.0, c.requires.1, omega (arith, c.in-Application.ensures), omega (arith, c.in-Application.ensures)))
 
-pub put_front-returns-in-0 : goal.put_front-returns-in-0
-put_front-returns-in-0 t c = whole _ _ (at_as (of_boolean c.requires.0 c.requires.1 c.field.ensures.is c.in-0.is) c.put_boolean.ensures)
+pub put_front-returns-in-Boolean : goal.put_front-returns-in-Boolean
+put_front-returns-in-Boolean t c = whole _ _ (at_as (of_boolean c.requires.0 c.requires.1 c.in-Boolean.ensures refl) c.put_boolean.ensures)
 
-pub put_front-returns-in-1 : goal.put_front-returns-in-1
-put_front-returns-in-1 t c = whole _ _ (at_as (of_integer c.requires.0 c.requires.1 c.field.ensures.is c.in-1.is) c.put_integer.ensures)
+pub put_front-returns-in-Integer : goal.put_front-returns-in-Integer
+put_front-returns-in-Integer t c = whole _ _ (at_as (of_integer c.requires.0 c.requires.1 c.in-Integer.ensures refl) c.put_integer.ensures)
 
-pub put_front-returns-in-2 : goal.put_front-returns-in-2
-put_front-returns-in-2 t c = whole _ _ (at_as (of_literal c.requires.0 c.requires.1 c.field.ensures.is c.in-2.is) c.custom_literal_to_string.ensures)
+pub put_front-returns-in-CustomLiteral : goal.put_front-returns-in-CustomLiteral
+put_front-returns-in-CustomLiteral t c = whole _ _ (at_as (of_literal c.requires.0 c.requires.1 c.in-CustomLiteral.ensures refl) c.custom_literal_to_string.ensures)
 
-pub put_front-returns-in-3 : goal.put_front-returns-in-3
-put_front-returns-in-3 t c = whole _ _ (at_as (of_id c.requires.0 c.requires.1 c.field.ensures.is c.in-3.is c.field-v.ensures.is c.named.ensures) c.put_at.ensures)
+pub put_front-returns-in-Id : goal.put_front-returns-in-Id
+put_front-returns-in-Id t c = whole _ _ (at_as (of_id c.requires.0 c.requires.1 c.in-Id.ensures refl c.field-v.ensures.is c.named.ensures) c.put_at.ensures)
 
-pub put_front-returns-in-6 : goal.put_front-returns-in-6
-put_front-returns-in-6 t c = fronted_as _ _ _ _ _ _ (of_if c.requires.0 c.requires.1 c.field.ensures.is c.in-6.is) c.put_if.ensures
+pub put_front-returns-in-IfThenElse : goal.put_front-returns-in-IfThenElse
+put_front-returns-in-IfThenElse t c = fronted_as _ _ _ _ _ _ (of_if c.requires.0 c.requires.1 c.in-IfThenElse.ensures refl) c.put_if.ensures
 
-pub put_front-returns-in-7 : goal.put_front-returns-in-7
-put_front-returns-in-7 t c = fronted_as _ _ _ _ _ _ (of_let c.requires.0 c.requires.1 c.field.ensures.is c.in-7.is) c.put_let.ensures
+pub put_front-returns-in-LetExpr : goal.put_front-returns-in-LetExpr
+put_front-returns-in-LetExpr t c = fronted_as _ _ _ _ _ _ (of_let c.requires.0 c.requires.1 c.in-LetExpr.ensures refl) c.put_let.ensures
 
-pub put_front-returns-in-8 : goal.put_front-returns-in-8
-put_front-returns-in-8 t c = fronted_as _ _ _ _ _ _ (of_quantifier c.requires.0 c.requires.1 c.field.ensures.is c.in-8.is) c.put_quantifier.ensures
+pub put_front-returns-in-QuantifierExpr : goal.put_front-returns-in-QuantifierExpr
+put_front-returns-in-QuantifierExpr t c = fronted_as _ _ _ _ _ _ (of_quantifier c.requires.0 c.requires.1 c.in-QuantifierExpr.ensures refl) c.put_quantifier.ensures
 
-pub put_front-returns-in_default : goal.put_front-returns-in_default
-put_front-returns-in_default t c = let h = application_kind c.requires.0 c.requires.1 c.field.ensures.is c.in_default.in_default-own.rest.0.0.0.0.0.0.1 c.in_default.in_default-own.rest.0.0.0.0.0.1 c.in_default.in_default-own.rest.0.0.0.0.1 c.in_default.in_default-own.rest.0.0.0.1 c.in_default.in_default-own.rest.0.0.1 c.in_default.in_default-own.rest.0.1 c.in_default.in_default-own.rest.1 in fronted_as _ _ _ _ _ _ (of_application c.requires.0 c.requires.1 c.field.ensures.is h.0 h.1) (fronted_then _ _ _ _ _ c.well_formed.1.1.1.0.0 c.operator_to_string-name.ensures c.put_arguments.ensures)
+pub put_application-operator_to_string-name-requires : goal.put_application-operator_to_string-name-requires
+put_application-operator_to_string-name-requires t c = (c.requires.0, c.requires.1, c.requires.2, c.requires.3)
+
+pub put_application-put_arguments-requires : goal.put_application-put_arguments-requires
+put_application-put_arguments-requires t c = (omega (arith, c.decreases), (c.requires.0, c.requires.1, good_arguments c.requires.0 c.requires.1 refl c.requires.2 c.requires.3))
+
+pub put_application-returns : goal.put_application-returns
+put_application-returns t c = fronted_as _ _ _ _ _ _ (of_application c.requires.0 c.requires.1 refl c.requires.2 c.requires.3) (fronted_then _ _ _ _ _ c.well_formed.1.1.1.0.0 c.operator_to_string-name.ensures c.put_arguments.ensures)
 
 pub put_if-field-requires : goal.put_if-field-requires
 put_if-field-requires t c = reads_term c.requires.0 1 (omega arith) c.requires.1

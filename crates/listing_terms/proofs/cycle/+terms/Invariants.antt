@@ -8,7 +8,10 @@ abbrev pub decreases-put_arguments : goal.decreases-put_arguments
 decreases-put_arguments l = 8 * l.t + 5
 
 abbrev pub decreases-put_front : goal.decreases-put_front
-decreases-put_front l = 8 * l.t + 6
+decreases-put_front l = 8 * l.t + 7
+
+abbrev pub decreases-put_application : goal.decreases-put_application
+decreases-put_application l = 8 * l.t + 6
 
 abbrev pub decreases-put_if : goal.decreases-put_if
 decreases-put_if l = 8 * l.t + 5
@@ -23,7 +26,7 @@ abbrev pub decreases-put_quantifier : goal.decreases-put_quantifier
 decreases-put_quantifier l = 8 * l.t + 5
 
 abbrev pub decreases-rexpr_to_string : goal.decreases-rexpr_to_string
-decreases-rexpr_to_string l = 8 * l.t + 7
+decreases-rexpr_to_string l = 8 * l.t + 8
 
 abbrev pub decreases-rexpr_list_to_string : goal.decreases-rexpr_list_to_string
 decreases-rexpr_list_to_string l = 8 * l.limit + 3
