@@ -6,7 +6,8 @@ ghost use Rattle.book.specs.Decode.{literal_at, program};
 ghost use Rattle.book_test.specs.Promise.{Promise};
 ghost use Rattle.audit.specs.Audit.{has_no_tag};
 
-use book::format::{CUSTOM_LITERAL, KIND, TERMS};
+use book::Kind;
+use book::format::{KIND, TERMS};
 use book::{count, field};
 use literals::is_tag;
 
@@ -15,7 +16,7 @@ fn is_tag_term(book: &[u8], t: usize) -> bool
     requires { Promise book.now × (t < size book.now terms) }
     ensures { result ≡ not (has_no_tag (literal_at book.now t)) }
 {
-    if field(book, TERMS, t, KIND) != CUSTOM_LITERAL {
+    if field(book, TERMS, t, KIND) != Kind::CustomLiteral as usize {
         return false;
     }
     is_tag(book, t)

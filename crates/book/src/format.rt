@@ -1,4 +1,4 @@
-// The book's numbers: its sections and limits, its records' fields, term kinds and type numbers.
+// The book's numbers: its sections and limits, its records' fields, and type numbers.
 
 // The sections, by their places in the table of contents.
 pub const LETTERS: usize = 0;
@@ -134,25 +134,6 @@ pub const QUANTIFIER_PATTERNS: usize = 4;
 pub const QUANTIFIER_PATTERNS_COUNT: usize = 5;
 
 pub const QUANTIFIER_BODY: usize = 6;
-
-// The kinds of terms.
-pub const BOOLEAN: usize = 0;
-
-pub const INTEGER: usize = 1;
-
-pub const CUSTOM_LITERAL: usize = 2;
-
-pub const ID: usize = 3;
-
-pub const BUILT_IN: usize = 4;
-
-pub const APPLICATION: usize = 5;
-
-pub const IF_THEN_ELSE: usize = 6;
-
-pub const LET_EXPR: usize = 7;
-
-pub const QUANTIFIER_EXPR: usize = 8;
 
 // Type numbers: Bool, Int, and from USER_TYPES up the user types.
 pub const BOOL: usize = 0;

@@ -11,8 +11,8 @@ use super::Appended;
 use super::appending::{append, inside};
 use book::format::{CONTEXTS, LETTERS, LISTS, TERMS};
 use book::{Refusal, count};
-use book_test::book_test;
 use book_growth::{Additions, NOTHING};
+use book_test::book_test;
 use new_records::{Before, EQUALS, Numbered, ROW2, ROW3, equality, name_parts, named, row};
 
 // The trace's field of a node without one; that of another is its name's number and one.

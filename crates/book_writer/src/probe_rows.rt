@@ -11,8 +11,8 @@ ghost use Rattle.book_writer.specs.Coded.{IsEquality, true_if, AreRows};
 
 use arrayvec::ArrayVec;
 use basics::put_at;
-use book::count;
-use book::format::{BOOLEAN, CONSTANTS, LISTS, TERMS};
+use book::format::{CONSTANTS, LISTS, TERMS};
+use book::{Kind, count};
 use name_search::filled;
 use new_records::{ProbeNames, ROW2, ROW3, ROW7, equality, row};
 
@@ -37,7 +37,7 @@ fn put_true(term: Option<u32>, out: &mut [u8]) -> usize
     match term {
         Some(_) => 0,
         None => {
-            let terms: [u8; ROW7] = row([BOOLEAN, TRUE, 0, 0, 0, 0, 0]);
+            let terms: [u8; ROW7] = row([Kind::Boolean as usize, TRUE, 0, 0, 0, 0, 0]);
             put_at(&terms, 0, out)
         }
     }

@@ -7,8 +7,8 @@ use super::appending::{append, inside};
 use super::extending::next_node;
 use book::format::{CONSTANTS, LETTERS, NAMES};
 use book::{Refusal, count};
-use book_test::book_test;
 use book_growth::{Additions, NOTHING};
+use book_test::book_test;
 use new_records::{ROW2, ROW3, name_row, row};
 
 // Any book, scratch, text and buffer are taken.

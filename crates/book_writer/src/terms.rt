@@ -7,10 +7,10 @@ ghost use Rattle.book_writer.specs.Coded.{fields_of, IsTermRow, listed_bytes};
 
 use super::Appended;
 use super::appending::append;
-use book::format::{APPLICATION, BUILT_IN, LISTS, QUANTIFIER_EXPR, TERMS};
-use book::{Refusal, count};
-use book_test::book_test;
+use book::format::{LISTS, TERMS};
+use book::{Kind, Refusal, count};
 use book_growth::{Additions, NOTHING};
+use book_test::book_test;
 use new_records::{ROW7, range_start, row};
 
 // The fields of a new term, as its record has them; start and count of a range are 0.
@@ -32,12 +32,16 @@ const ENTRY: usize = 4;
 fn ranges_of(kind: u32) -> usize
     ensures { result ≡ ranges_of kind }
 {
-    match kind as usize {
-        BUILT_IN => 1,
-        APPLICATION => 1,
-        QUANTIFIER_EXPR => 2,
-        _ => 0,
+    if kind == Kind::BuiltIn as u32 {
+        return 1;
     }
+    if kind == Kind::Application as u32 {
+        return 1;
+    }
+    if kind == Kind::QuantifierExpr as u32 {
+        return 2;
+    }
+    0
 }
 
 // A list that the kind has no range for is empty; another is whole numbers, and its range's fields are handed over as 0.

@@ -9,11 +9,11 @@ ghost use Rattle.rsolver.specs.Listing.{bound_var_to_string, custom_literal_to_s
 ghost use Rattle.listing_terms.specs.Texts.{lead, closing, boolean_text, integer_text, operator_text, universal, variables_text};
 
 use basics::{clip, put_at, put_int, repeat, sum};
-use book::field;
 use book::format::{
-    BOOLEAN_VALUE, BUILT_IN, CONSTANT_NAME, CONSTANT_TYPE, CONSTANTS, FUNCTION_NAME, FUNCTIONS,
-    KIND, LISTED, LISTS, LITERAL_NAME, LITERAL_TYPE, OPERATOR, QUANTIFIER_UNIVERSAL, TERMS,
+    BOOLEAN_VALUE, CONSTANT_NAME, CONSTANT_TYPE, CONSTANTS, FUNCTION_NAME, FUNCTIONS, KIND, LISTED,
+    LISTS, LITERAL_NAME, LITERAL_TYPE, OPERATOR, QUANTIFIER_UNIVERSAL, TERMS,
 };
+use book::{Kind, field};
 use records::named;
 use sexpr_names::put_type;
 use solver_expr::integer_bits;
@@ -104,7 +104,7 @@ pub fn operator_to_string(book: &[u8], t: usize, at: usize, out: &mut [u8]) -> u
     requires { Promise book.now × (t < size book.now terms) × (4 ≤ field book.now terms t 0) × (field book.now terms t 0 ≤ 5) }
     ensures { WroteAt (operator_text book.now t) at out.old out.new result }
 {
-    if field(book, TERMS, t, KIND) == BUILT_IN {
+    if field(book, TERMS, t, KIND) == Kind::BuiltIn as usize {
         return put_at(named(book, TERMS, t, OPERATOR), at, out);
     }
     let f = field(book, TERMS, t, OPERATOR);

@@ -10,7 +10,7 @@ ghost use Rattle.literals.specs.Search.{literal_count, search, search_value};
 
 use super::Search;
 use book::format::*;
-use book::{count, field};
+use book::{Kind, count, field};
 use levels::{LITERAL_PLACES, Level};
 use literal_names::{Sought, agrees};
 
@@ -19,7 +19,7 @@ fn literals_at(book: &[u8], k: usize) -> usize
     requires { Promise book.now × (k < size book.now terms) }
     ensures { result ≡ literal_count (literal_at book.now k ∷ []) }
 {
-    if field(book, TERMS, k, KIND) == CUSTOM_LITERAL {
+    if field(book, TERMS, k, KIND) == Kind::CustomLiteral as usize {
         1
     } else {
         0
@@ -39,7 +39,7 @@ fn declares_name(
     ensures { result ≡ declares_name book.now (barred s.now typ.now) levels.now k }
 {
     levels[LITERAL_PLACES + k] != 0
-        && field(book, TERMS, k, KIND) == CUSTOM_LITERAL
+        && field(book, TERMS, k, KIND) == Kind::CustomLiteral as usize
         && agrees(book, k, sought, s, typ)
 }
 

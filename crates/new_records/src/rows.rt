@@ -4,7 +4,7 @@ ghost use Rattle.basics.specs.Bytes.{row, rows};
 ghost use Rattle.new_records.specs.Drafts.{identifier, equality, range_start, name_row, term_row};
 
 use basics::{put_at, put_word};
-use book::format::{BUILT_IN, ID};
+use book::Kind;
 
 // Bytes of a row of so many fields.
 pub const ROW2: usize = 8;
@@ -48,8 +48,16 @@ pub fn name_row(behind: usize, length: usize) -> [u8; ROW2]
 pub fn equality(constant: usize, operator: usize, entries: usize) -> [u8; EQUALITY]
     ensures { result ≡ rows (map term_row (identifier constant ∷ equality operator entries ∷ [])) }
 {
-    let id: [u8; ROW7] = row([ID, constant, 0, 0, 0, 0, 0]);
-    let equal: [u8; ROW7] = row([BUILT_IN, operator, entries, ARGUMENTS, 0, 0, 0]);
+    let id: [u8; ROW7] = row([Kind::Id as usize, constant, 0, 0, 0, 0, 0]);
+    let equal: [u8; ROW7] = row([
+        Kind::BuiltIn as usize,
+        operator,
+        entries,
+        ARGUMENTS,
+        0,
+        0,
+        0,
+    ]);
     let mut out = [0; EQUALITY];
     let next = put_at(&id, 0, &mut out);
     put_at(&equal, next, &mut out);

@@ -1,20 +1,20 @@
 use native.Mathlib.Omega.{arith}
+use borrow.Author.Rules.{rules}
 use Rattle.book_writer.specs.Growths.{ranges_of}
 use Rattle.book_writer.proofs.Fields.{ranges_other}
-use borrow.Author.Rules.{rules}
 use Rattle.book_writer.proofs.terms.ranges_of.Goals as goal
 
-pub returns-in-4 : goal.returns-in-4
+pub returns-then-kind : goal.returns-then-kind
 unfolding ranges_of
-returns-in-4 c = search rules
+returns-then-kind c = rw c.if-kind.true
 
-pub returns-in-5 : goal.returns-in-5
+pub returns-then-kind-2 : goal.returns-then-kind-2
 unfolding ranges_of
-returns-in-5 c = search rules
+returns-then-kind-2 c = rw c.if-kind-2.true
 
-pub returns-in-8 : goal.returns-in-8
+pub returns-then-kind-3 : goal.returns-then-kind-3
 unfolding ranges_of
-returns-in-8 c = search rules
+returns-then-kind-3 c = rw c.if-kind-3.true
 
-pub returns-in_default : goal.returns-in_default
-returns-in_default c = ranges_other _ (omega arith) (omega arith) (omega arith)
+pub returns : goal.returns
+returns c = ranges_other _ c.if-kind.false c.if-kind-2.false c.if-kind-3.false
