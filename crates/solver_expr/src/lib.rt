@@ -11,9 +11,11 @@ use book::format::{CONSTANT_NAME, CONSTANTS};
 
 mod book_call;
 mod lowering;
+mod measured;
 
 pub use book_call::tested;
 pub use lowering::{integer_bits, to_sexpr, type_to_sexpr};
+pub use measured::fitted;
 
 // The words of lowered terms, and Equals and And, which the Dafny names beside them.
 #[derive(Clone, Copy)]
