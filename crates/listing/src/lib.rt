@@ -1,6 +1,6 @@
 #![tactic(auto)]
 // RSolver.dfy: RContextNode.Print and PrintProofObligation, and the call that prints what is to be proved at a node.
-ghost use Rattle.std.specs.Prelude.{◌≡◌, ◌<◌, length};
+ghost use Rattle.std.specs.Prelude.{◌≡◌, ◌<◌};
 ghost use Rattle.basics.specs.Write.{Wrote, WroteAt};
 ghost use Rattle.book.specs.Book.{terms, size};
 ghost use Rattle.book.specs.Program.{node_at, path};
@@ -8,13 +8,14 @@ ghost use Rattle.book.specs.Decode.{term, program};
 ghost use Rattle.book_test.specs.Promise.{Promise};
 ghost use Rattle.contexts.specs.Path.{IsNode, IsBelow};
 ghost use Rattle.rsolver.specs.Listing.{listing_line, print_context, print_proof_obligation, listing_call};
-ghost use Rattle.solver_expr.specs.Print.{printed_value, fitting, Answered};
+ghost use Rattle.solver_expr.specs.Print.{printed_value};
 
 use book_test::book_test;
 use basics::put_at;
 use book::format::{CONTEXT_TERM, CONTEXTS, TERMS};
 use book::{Refusal, count, field};
 use listing_terms::rexpr_to_string;
+use solver_expr::fitted;
 
 // A line: term t, two spaces in.
 fn put_line(book: &[u8], t: usize, at: usize, out: &mut [u8]) -> usize
@@ -59,19 +60,6 @@ pub fn print_proof_obligation(book: &[u8], node: usize, goal: usize, out: &mut [
     put_line(book, goal, turnstile, out)
 }
 
-// The text is measured before the buffer is touched.
-fn print_fitting(book: &[u8], node: usize, goal: usize, text: &mut [u8]) -> Result<usize, Refusal>
-    requires { IsNode book.now node × (goal < size book.now terms) }
-    ensures { Answered (fitting (length text.old) (print_proof_obligation (program book.now) node (term book.now goal))) result text.old text.new }
-{
-    let whole = print_proof_obligation(book, node, goal, &mut []);
-    if text.len() < whole {
-        return Err(Refusal::BufferTooShort);
-    }
-    print_proof_obligation(book, node, goal, text);
-    Ok(whole)
-}
-
 // Any book, scratch, node, goal and text buffer are taken.
 pub fn listing(
     book: &[u8],
@@ -89,5 +77,5 @@ pub fn listing(
     if count(book, TERMS) <= goal {
         return Err(Refusal::NotInBook);
     }
-    print_fitting(book, node, goal, text)
+    fitted(|out| print_proof_obligation(book, node, goal, out), text)
 }

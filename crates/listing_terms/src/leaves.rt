@@ -1,5 +1,5 @@
 // What a term's text holds besides other terms: types, variables, literals and numbers.
-ghost use Rattle.std.specs.Prelude.{◌+◌, ◌<◌, ◌≤◌};
+ghost use Rattle.std.specs.Prelude.{◌+◌, ◌++◌, ◌<◌, ◌≤◌};
 ghost use Rattle.basics.specs.Write.{WroteAt};
 ghost use Rattle.book.specs.Book.{types, constants, terms, size, field, user_types};
 ghost use Rattle.book.specs.Decode.{type_of, constant_of, literal_of};
@@ -28,14 +28,24 @@ pub fn type_to_string(book: &[u8], typ: usize, at: usize, out: &mut [u8]) -> usi
     sum(at, n)
 }
 
+// A name, what stands behind it, and a type.
+fn put_typed(book: &[u8], name: &[u8], colon: &[u8], typ: usize, at: usize, out: &mut [u8]) -> usize
+    requires { Promise book.now × (typ < user_types + size book.now types) }
+    ensures { WroteAt (name.now ++ colon.now ++ type_to_string (type_of book.now typ)) at out.old out.new result }
+{
+    let named = put_at(name, at, out);
+    let behind = put_at(colon, named, out);
+    type_to_string(book, typ, behind, out)
+}
+
 // BoundVarToString of constant v.
 pub fn bound_var_to_string(book: &[u8], v: usize, at: usize, out: &mut [u8]) -> usize
     requires { Promise book.now × (v < size book.now constants) }
     ensures { WroteAt (bound_var_to_string (constant_of book.now v)) at out.old out.new result }
 {
-    let name = put_at(named(book, CONSTANTS, v, CONSTANT_NAME), at, out);
-    let colon = put_at(b": ", name, out);
-    type_to_string(book, field(book, CONSTANTS, v, CONSTANT_TYPE), colon, out)
+    let name = named(book, CONSTANTS, v, CONSTANT_NAME);
+    let typ = field(book, CONSTANTS, v, CONSTANT_TYPE);
+    put_typed(book, name, b": ", typ, at, out)
 }
 
 // What stands before part i of a list.
@@ -94,9 +104,9 @@ pub fn custom_literal_to_string(book: &[u8], t: usize, at: usize, out: &mut [u8]
     requires { Promise book.now × (t < size book.now terms) × GoodLiteral book.now t }
     ensures { WroteAt (custom_literal_to_string (literal_of book.now t)) at out.old out.new result }
 {
-    let s = put_at(named(book, TERMS, t, LITERAL_NAME), at, out);
-    let colon = put_at(b":", s, out);
-    type_to_string(book, field(book, TERMS, t, LITERAL_TYPE), colon, out)
+    let name = named(book, TERMS, t, LITERAL_NAME);
+    let typ = field(book, TERMS, t, LITERAL_TYPE);
+    put_typed(book, name, b":", typ, at, out)
 }
 
 // ROperator.ToString of application t.

@@ -51,11 +51,7 @@ fn lead(i: usize, newlines: bool, indent: usize, out: &mut [u8]) -> usize
     if i == 0 {
         0
     } else {
-        SExprPrintConfig {
-            newlines: newlines,
-            indent: indent,
-        }
-        .space(out)
+        SExprPrintConfig { newlines, indent }.space(out)
     }
 }
 

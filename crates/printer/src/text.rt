@@ -13,7 +13,7 @@ use sexpr_names::name_to_string;
 use sexpr_rows::{Turn, turn_of};
 use solver_expr::{SExpr, SRow};
 
-// Part i where its turn is a name. Not inlined, and the turn is handed on whole: the name's own place would cost stack in each nested call.
+// Part i where its turn is a name. Not inlined, and the turn is handed on whole: the name's own place would cost stack in each nested call. So a turn that is no name is answered 0, and not refused.
 #[inline(never)]
 fn put_name(
     book: &[u8],
@@ -33,7 +33,7 @@ fn put_name(
     }
 }
 
-// The parts of a row, and the parenthesis that closes it. A row that is the last part is printed in its turn: its parenthesis closes with the others, and only a row before other parts costs a call.
+// The parts of a row, and the parenthesis that closes it. A row that is the last part is printed in its turn: its parenthesis closes with the others, and only a row before other parts costs a call. The layout's two numbers are handed on apart: each nested call is to keep its 192 bytes of stack.
 fn parts_to_string(
     book: &[u8],
     row: SRow,

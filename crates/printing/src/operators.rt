@@ -6,6 +6,7 @@ ghost use Rattle.solver_expr.specs.Print.{printed_value, fitting, operator_text,
 
 use basics::put_all;
 use book::Refusal;
+use solver_expr::fitted;
 
 // The name of the operator with a code.
 #[tactic(auto, unfolding(solver_expr::specs::Operators::operator_of, solver_expr::specs::Operators::operator_to_string, solver_expr::specs::Print::operator_text))]
@@ -38,8 +39,5 @@ pub fn operator(code: usize, text: &mut [u8]) -> Result<usize, Refusal>
     let Some(name) = name_of(code) else {
         return Err(Refusal::NoOperator);
     };
-    if text.len() < name.len() {
-        return Err(Refusal::BufferTooShort);
-    }
-    Ok(put_all(name, text))
+    fitted(|out| put_all(name, out), text)
 }

@@ -85,13 +85,13 @@ module _ (b : Book) where
       ap {B = Text} (λ (x : Text). x ++ type_text b (field b terms t 2) ++ (0x29 ∷ newline ∷ [])) (no_inputs (ascii "(declare-fun " ++ literal_name (literal_of b t)))
       ∙ end_line (ascii "(declare-fun " ++ literal_name (literal_of b t) ++ ascii " " ++ ascii "()" ++ ascii " " ++ type_text b (field b terms t 2)) (ascii ")")
 
-  pub assume_line : (t tag : ℕ) → ascii "(assert " ++ to_string (to_sexpr (term b t) tag) flat ++ (0x29 ∷ newline ∷ []) ≡ script (Assume (term b t) tag ∷ [])
+  pub assume_line : (t tag : ℕ) {x : Text} → x ≡ to_string (to_sexpr (term b t) tag) flat → ascii "(assert " ++ x ++ (0x29 ∷ newline ∷ []) ≡ script (Assume (term b t) tag ∷ [])
   unfolding script command_to_string context_to_string assumption
-  assume_line t tag = end_line (ascii "(assert " ++ to_string (to_sexpr (term b t) tag) flat) (ascii ")")
+  assume_line t tag e = rw e (end_line (ascii "(assert " ++ to_string (to_sexpr (term b t) tag) flat) (ascii ")"))
 
-  pub assume_not_line : (t tag : ℕ) → ascii "(assert " ++ to_string (negation (to_sexpr (term b t) tag)) flat ++ (0x29 ∷ newline ∷ []) ≡ script (AssumeNot (term b t) tag ∷ [])
+  pub assume_not_line : (t tag : ℕ) {x : Text} → x ≡ to_string (negation (to_sexpr (term b t) tag)) flat → ascii "(assert " ++ x ++ (0x29 ∷ newline ∷ []) ≡ script (AssumeNot (term b t) tag ∷ [])
   unfolding script command_to_string context_to_string assumption
-  assume_not_line t tag = end_line (ascii "(assert " ++ to_string (negation (to_sexpr (term b t) tag)) flat) (ascii ")")
+  assume_not_line t tag e = rw e (end_line (ascii "(assert " ++ to_string (negation (to_sexpr (term b t) tag)) flat) (ascii ")"))
 
 pub push_line : ascii "(push 1)" ++ (newline ∷ []) ≡ script (Push ∷ [])
 unfolding script command_to_string CMD_PUSH

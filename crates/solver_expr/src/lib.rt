@@ -10,8 +10,10 @@ use book::field;
 use book::format::{CONSTANT_NAME, CONSTANTS};
 
 mod lowering;
+mod measured;
 
 pub use lowering::{integer_bits, to_sexpr, type_to_sexpr};
+pub use measured::fitted;
 
 // The words of lowered terms, and Equals and And, which the Dafny names beside them.
 #[derive(Clone, Copy)]

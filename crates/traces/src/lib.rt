@@ -13,6 +13,7 @@ ghost use Rattle.traces.specs.Call.{trace_in};
 use book_test::book_test;
 use book::Refusal;
 use book::format::{CONTEXT_TRACE, CONTEXTS};
+use solver_expr::fitted;
 
 // The field of a node without trace; that of another is its name's number and one.
 const NO_TRACE: usize = 0;
@@ -55,7 +56,7 @@ fn print_trace(book: &[u8], node: usize, out: &mut [u8]) -> usize
     written
 }
 
-// The call in a book that passed its test. The text is measured before the buffer is touched.
+// The call in a book that passed its test.
 fn trace_in(book: &[u8], node: usize, text: &mut [u8]) -> Result<usize, Refusal>
     requires { Promise book.now }
     ensures { Answered (trace_in book.now node (length text.old)) result text.old text.new }
@@ -63,12 +64,7 @@ fn trace_in(book: &[u8], node: usize, text: &mut [u8]) -> Result<usize, Refusal>
     if book::count(book, CONTEXTS) < node {
         return Err(Refusal::NotInBook);
     }
-    let whole = print_trace(book, node, &mut []);
-    if text.len() < whole {
-        return Err(Refusal::BufferTooShort);
-    }
-    print_trace(book, node, text);
-    Ok(whole)
+    fitted(|out| print_trace(book, node, out), text)
 }
 
 // Any book, scratch, node and text buffer are taken.
