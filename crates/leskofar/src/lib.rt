@@ -1,11 +1,13 @@
 #![tactic(auto)]
 // What C links: the public calls, on numbers and byte slices. include/leskofar.h says what each does.
 ghost use Rattle.std.specs.Prelude.{◌≡◌};
-ghost use Rattle.book_test.specs.BookTest.{tested_value, book_test_call};
+ghost use Rattle.book_test.specs.BookTest.{book_test_call};
+ghost use Rattle.solvers.specs.Returned.{outcome_of};
 ghost use Rattle.leskofar.specs.Exports.{refusal_of};
 
-use book_test::Tested;
+use book::Refusal;
 use refusal_numbers::number;
+use solvers::tested;
 
 mod audit_call;
 mod node_calls;
@@ -30,12 +32,12 @@ pub use writer_calls::{
 const ACCEPTED: u32 = 0;
 
 // The refusal's number, or ACCEPTED.
-fn refusal(tested: Tested) -> u32
-    ensures { result ≡ refusal_of (tested_value tested) }
+fn refusal(answer: Result<(), Refusal>) -> u32
+    ensures { result ≡ refusal_of (outcome_of answer) }
 {
-    match tested {
-        Tested::Good => ACCEPTED,
-        Tested::Refused(r) => number(r),
+    match answer {
+        Ok(()) => ACCEPTED,
+        Err(why) => number(why),
     }
 }
 
@@ -43,5 +45,5 @@ fn refusal(tested: Tested) -> u32
 pub extern "C" fn leskofar_book_test(book: &[u8], scratch: &mut [u8]) -> u32
     ensures { (result ≡ refusal_of (book_test_call book.now scratch.old).answer) × (scratch.new ≡ (book_test_call book.now scratch.old).scratch) }
 {
-    refusal(book_test::book_test(book, scratch))
+    refusal(tested(book, scratch))
 }

@@ -1,12 +1,12 @@
 use mathlib.Core.Path.{sym, ap, ◌∙◌}
-use Rattle.book_test.specs.BookTest.{tested_value}
+use Rattle.solvers.specs.Returned.{outcome_of}
 use Rattle.leskofar.specs.Exports.{refusal_of}
 use Rattle.leskofar.proofs.refusal.Goals as goal
 
-pub returns-in-Good : goal.returns-in-Good
-unfolding refusal_of tested_value
-returns-in-Good c = sym (ap refusal_of (ap tested_value c.in-Good.is))
+pub returns-in-Ok : goal.returns-in-Ok
+unfolding refusal_of outcome_of
+returns-in-Ok c = sym (ap refusal_of (ap outcome_of c.in-Ok.is))
 
-pub returns-in-Refused : goal.returns-in-Refused
-unfolding refusal_of tested_value
-returns-in-Refused c = c.number.ensures ∙ sym (ap refusal_of (ap tested_value c.in-Refused.is))
+pub returns-in-Err : goal.returns-in-Err
+unfolding refusal_of outcome_of
+returns-in-Err c = c.number.ensures ∙ sym (ap refusal_of (ap outcome_of c.in-Err.is))
