@@ -30,10 +30,10 @@ pub use writer_calls::{
 const ACCEPTED: u32 = 0;
 
 // The refusal's number, or ACCEPTED.
-fn refusal(tested: Result<(), Refusal>) -> u32
-    ensures { result ≡ refusal_of (tested_value tested) }
+fn refusal(answer: Result<(), Refusal>) -> u32
+    ensures { result ≡ refusal_of (tested_value answer) }
 {
-    match tested {
+    match answer {
         Ok(()) => ACCEPTED,
         Err(why) => number(why),
     }

@@ -1,15 +1,16 @@
 // The calls move, ask, reply and model, on the byte image of a session; and its turns to the narrow kind and back.
-ghost use Rattle.std.specs.Prelude.{◌≡◌, []};
+ghost use Rattle.std.specs.Prelude.{◌≡◌, [], is_ok};
 ghost use Rattle.solvers.specs.Calls.{move_to, ask_for, reply_with, model_with};
 ghost use Rattle.solvers.specs.Left.{answer_value};
 ghost use Rattle.solvers.specs.Image.{called_on_image};
 ghost use Rattle.solvers.specs.Narrow.{widened_on_image, narrowed_on_image};
-ghost use Rattle.solvers.specs.Returned.{lent};
+ghost use Rattle.solvers.specs.Returned.{lent, lent_text, heard};
 ghost use Rattle.basics.specs.Text.{given};
 ghost use Rattle.image_calls.specs.Stored.{fresh_image};
 ghost use Rattle.leskofar.specs.Exports.{refusal_of, flag, answered, fresh_refusal};
 
 use super::{ACCEPTED, refusal};
+use book::Refusal;
 use image_calls::{ask_image, fresh_image, model_image, move_image, reply_image};
 use narrow_sessions::{narrow_image, widen_image};
 use refusal_numbers::number;
@@ -21,9 +22,6 @@ const WRITTEN: u32 = 0;
 const PROVED: u32 = 1;
 
 const UNPROVED: u32 = 2;
-
-// The refusal for bytes that cannot hold an image.
-const NO_SESSION: u32 = 20;
 
 // The answer of a session's call: 0, what it gives and the lengths of text and reason; or the refusal's number.
 #[repr(C)]
@@ -46,15 +44,23 @@ fn accepted(res: u32, text: usize, reason: usize) -> Answered
     }
 }
 
-fn answer(a: Answer) -> Answered
-    ensures { result ≡ answered (answer_value a) }
+fn given(answer: Answer) -> Answered
+    ensures { result ≡ answered (answer_value (Ok answer)) }
 {
-    match a {
+    match answer {
         Answer::Written(n) => accepted(WRITTEN, n, 0),
         Answer::Proved(n) => accepted(PROVED, n, 0),
         Answer::Unproved(n, m) => accepted(UNPROVED, n, m),
-        Answer::Refused(r) => Answered {
-            refusal: number(r),
+    }
+}
+
+fn answer(a: Result<Answer, Refusal>) -> Answered
+    ensures { result ≡ answered (answer_value a) }
+{
+    match a {
+        Ok(answer) => given(answer),
+        Err(why) => Answered {
+            refusal: number(why),
             result: 0,
             text: 0,
             reason: 0,
@@ -62,15 +68,25 @@ fn answer(a: Answer) -> Answered
     }
 }
 
+// A check's reply, or the error of one that failed, by C's flag.
+fn checked(ok: u32, reply: &[u8]) -> Result<&[u8], &[u8]>
+    ensures { (is_ok result ≡ flag ok) × (heard result ≡ reply.now) }
+{
+    if ok != 0 { Ok(reply) } else { Err(reply) }
+}
+
+// The model, if one came, by C's flag.
+fn sent(came: u32, model: &[u8]) -> Option<&[u8]>
+    ensures { lent_text result ≡ given (flag came) model.now }
+{
+    if came != 0 { Some(model) } else { None }
+}
+
 #[unsafe(no_mangle)]
 pub extern "C" fn leskofar_fresh(image: &mut [u8]) -> u32
     ensures { (result ≡ fresh_refusal image.old) × (image.new ≡ fresh_image image.old) }
 {
-    if fresh_image(image) {
-        ACCEPTED
-    } else {
-        NO_SESSION
-    }
+    refusal(fresh_image(image))
 }
 
 #[unsafe(no_mangle)]
@@ -122,7 +138,7 @@ pub extern "C" fn leskofar_reply(
     ensures reason { reason.new ≡ (called_on_image book.now image.old (reply_with (lent scratch.old text.old reason.old) (flag ok) reply.now)).reason }
     ensures scratch { scratch.new ≡ (called_on_image book.now image.old (reply_with (lent scratch.old text.old reason.old) (flag ok) reply.now)).scratch }
 {
-    answer(reply_image(book, scratch, image, ok != 0, reply, text, reason))
+    answer(reply_image(book, scratch, image, checked(ok, reply), text, reason))
 }
 
 #[unsafe(no_mangle)]
@@ -142,7 +158,7 @@ pub extern "C" fn leskofar_model(
     ensures reason { reason.new ≡ (called_on_image book.now image.old (model_with (lent scratch.old text.old reason.old) reply.now (given (flag came) model.now))).reason }
     ensures scratch { scratch.new ≡ (called_on_image book.now image.old (model_with (lent scratch.old text.old reason.old) reply.now (given (flag came) model.now))).scratch }
 {
-    answer(model_image(book, scratch, image, reply, came != 0, model, text, reason))
+    answer(model_image(book, scratch, image, reply, sent(came, model), text, reason))
 }
 
 #[unsafe(no_mangle)]

@@ -30,17 +30,17 @@ left_by b size write o scratch buffer =
 module _ {S : Type 0} (b : Book) (size : ℕ) (write : S → List ℕ) (o : Outcome S) (scratch buffer : List ℕ) {l : TurnLeft} (is : left_by b size write o scratch buffer ≡ l)
     {d : Result (Unit {0}) Refusal} {scratch' : List ℕ} (h : (tested_value d ≡ (book_test_call b scratch).answer) × (scratch' ≡ (book_test_call b scratch).scratch)) where
   pub stopped : {why : Refusal} → d ≡ Err why → ImageTurned l (Err why) buffer scratch'
-  unfolding left_by ◌>>◌ answer_of buffer_after outcome_of book_test_call
+  unfolding left_by ◌>>◌ answer_of buffer_after outcome_of tested_value book_test_call
   stopped e = let t = stops b scratch h.0 e in rw (sym is) (record { answer = rw t; image'' = rw t; scratch'' = h.1 })
 
   module _ {u : Unit {0}} (e : d ≡ Ok u) where
     pub no_room : ¬ (length buffer ≡ size) → ImageTurned l (Err NoSession) buffer scratch'
-    unfolding left_by refuse ◌>>◌ answer_of buffer_after outcome_of book_test_call number
+    unfolding left_by refuse ◌>>◌ answer_of buffer_after outcome_of tested_value book_test_call number
     no_room k = let t = passes b scratch h.0 e in let f = ne_eqb (length buffer) size k in rw (sym is) (record { answer = rw (t, f); image'' = rw (t, f); scratch'' = h.1 })
 
     module _ (k : length buffer ≡ size) {r : Result S Refusal} (g : outcome_of r ≡ o) where
       pub not_turned : {why : Refusal} → r ≡ Err why → ImageTurned l (Err why) buffer scratch'
-      unfolding left_by refuse ◌>>◌ answer_of buffer_after outcome_of book_test_call
+      unfolding left_by refuse ◌>>◌ answer_of buffer_after outcome_of tested_value book_test_call
       not_turned q =
           let t = passes b scratch h.0 e in
           let f = eq-eqb (length buffer) size k in
@@ -48,7 +48,7 @@ module _ {S : Type 0} (b : Book) (size : ℕ) (write : S → List ℕ) (o : Outc
           rw (sym is) (record { answer = rw (t, f, x); image'' = rw (t, f, x); scratch'' = h.1 })
 
       pub turned : {s : S} {buffer' : List ℕ} → r ≡ Ok s → length (write s) ≡ size → buffer' ≡ write s → ImageTurned l (Ok tt) buffer' scratch'
-      unfolding left_by refuse ◌>>◌ answer_of buffer_after outcome_of book_test_call
+      unfolding left_by refuse ◌>>◌ answer_of buffer_after outcome_of tested_value book_test_call
       turned {s} q long w =
           let t = passes b scratch h.0 e in
           let f = eq-eqb (length buffer) size k in

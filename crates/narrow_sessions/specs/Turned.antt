@@ -9,6 +9,7 @@ use Rattle.solvers.specs.declared.Session.{Session}
 use Rattle.solvers.specs.declared.NarrowSession.{NarrowSession}
 use Rattle.solvers.specs.Calls.{is_session}
 use Rattle.solvers.specs.Narrow.{narrow_depth, wide_of, narrow_of, is_narrow, Turned, answer_of, or_else, TurnLeft}
+use Rattle.book_test.specs.BookTest.{tested_value}
 use Rattle.solvers.specs.Returned.{outcome_of}
 
 -- the turns behind the book test
@@ -35,6 +36,6 @@ for_room room size fits other = if eqb room size then fits else other
 
 -- THE TURNS on images: answer, buffer and scratch are the definition's
 pub record ImageTurned (l : TurnLeft) (r : Result (Unit {0}) Refusal) (image scratch : List ℕ) : Type 0 where
-  pub answer : outcome_of r ≡ l.answer
+  pub answer : tested_value r ≡ l.answer
   pub image'' : image ≡ l.image
   pub scratch'' : scratch ≡ l.scratch

@@ -2,7 +2,6 @@
 use Prim.Native.Nat.{ℕ, ◌+◌, ◌-◌, ◌<◌, ◌≤◌}
 use native.Mathlib.Omega.{arith}
 use mathlib.Core.Path.{◌≡◌, refl, ap, sym, ◌∙◌}
-use mathlib.Core.Bool.{true, false}
 use mathlib.Core.List.{List, [], ◌++◌}
 use lib.ListN.{length, take, drop, get_or, length-drop}
 use lib.Seq.{get_or-drop}
@@ -10,9 +9,8 @@ use borrow.Author.Tests.{lt-ltb, le-ltb, ne_eqb}
 use Rattle.book.specs.Book.{Book, word}
 use Rattle.solvers.specs.declared.Session.{Session}
 use Rattle.script_text.specs.declared.answers.Turn.{Turn}
-use Rattle.script_text.specs.declared.reading.Wanted.{Wanted}
 use Rattle.script_text.specs.Script.{call_size, Shape, moving, asking, stopping, shape_of, shape, Printed, turn}
-use Rattle.script_text.specs.Turned.{Turned, wants}
+use Rattle.script_text.specs.Turned.{Turned}
 
 byte_at : (calls : List ℕ) (at i n : ℕ) → n ≡ at + i → get_or (drop at calls) i 0 ≡ get_or calls n 0
 byte_at calls at i n e = get_or-drop at calls i 0 ∙ ap (λ (k : ℕ). get_or calls k 0) (sym e)
@@ -66,20 +64,6 @@ widened {r = r} {t = t} closing x =
       session = x.session;
       more = x.more;
     }
-
--- what has been read, by its flags
-module _ (w : Wanted) where
-  pub wants_stop : w.stops ≡ true → wants w ≡ stopping
-  unfolding wants
-  wants_stop e = rw e
-
-  pub wants_ask : w.stops ≡ false → w.asks ≡ true → wants w ≡ asking w.node w.term
-  unfolding wants
-  wants_ask e f = rw (e, f)
-
-  pub wants_move : w.stops ≡ false → w.asks ≡ false → wants w ≡ moving w.node
-  unfolding wants
-  wants_move e f = rw (e, f)
 
 pub by_shape : (b : Book) (s : Session) {r : Turn} {s' : Session} {t closing : List ℕ} {f g : Shape} → g ≡ f → Turned (turn b s f) r s' t closing → Turned (turn b s g) r s' t closing
 by_shape b s e x = rw e x

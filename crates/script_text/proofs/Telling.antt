@@ -15,13 +15,14 @@ use Rattle.book.specs.declared.Refusal.{Refusal}
 use Rattle.book.specs.declared.Refusal.TheVariants.{ShortScratch, BadContents, CountOverLimit, FieldOutOfRange, NoForest, TooDeep, NotInBook, ReplyIsUnsat, MissingAxiom, BufferTooShort, NoOperator, NoSession, QuestionOpen, NoReplyOwed, NoModelOwed, TooDeepForNarrow, TagInBook, ForeignLine, ChecksDiffer, BadName}
 use Rattle.solvers.specs.Session.{Written, text_of}
 use Rattle.solvers.specs.Calls.{Host}
+use Rattle.std.specs.Prelude.{Result, Ok, Err}
 use Rattle.solvers.specs.declared.Answer.{Answer}
 use Rattle.solvers.specs.declared.Answer.TheVariants as answer
 use Rattle.solvers.specs.Left.{answer_value, values}
 use Rattle.solvers.specs.Taken.{text_length}
 use Rattle.solvers.proofs.Taken.{FitsIn, by_length}
 use Rattle.script_text.specs.Script.{text_size, stopped, refused_line, told}
-use Rattle.script_text.specs.Turned.{Shows, Tells}
+use Rattle.script_text.specs.Turned.{Shows, Tells, length_told}
 
 shows_overlay : (t : Text) (o : List ℕ) {n : ℕ} {o1 : List ℕ} → n ≡ length t → o1 ≡ overlay t o → length t ≤ length o → Shows t n o1
 shows_overlay t o {n} {o1} en eo h =
@@ -71,19 +72,13 @@ pub refused_shows : (why : Refusal) {o o1 : List ℕ} {r : ℕ} → length o ≡
 refused_shows why e w = wrote_shows (omega (arith, e)) (omega (arith, e, line_short why)) w
 
 -- what is told of each answer
-module _ {a : Answer} {n : ℕ} (t : List ℕ) where
-  pub tells_written : a ≡ answer.Written n → Tells (answer_value a) n t t
+module _ {a : Result Answer Refusal} {n : ℕ} (t : List ℕ) where
+  pub tells_text : (v : Answer) → a ≡ Ok v → n ≡ length_told v → Tells (answer_value a) n t t
   unfolding Tells answer_value text_length
-  tells_written e = rw e (refl, refl)
+  tells_text (answer.Written k) e l = rw e (l, refl)
+  tells_text (answer.Proved k) e l = rw e (l, refl)
+  tells_text (answer.Unproved k m) e l = rw e (l, refl)
 
-  pub tells_proved : a ≡ answer.Proved n → Tells (answer_value a) n t t
-  unfolding Tells answer_value text_length
-  tells_proved e = rw e (refl, refl)
-
-  pub tells_unproved : {m : ℕ} → a ≡ answer.Unproved n m → Tells (answer_value a) n t t
-  unfolding Tells answer_value text_length
-  tells_unproved e = rw e (refl, refl)
-
-  pub tells_refused : {why : Refusal} {t' : List ℕ} → a ≡ answer.Refused why → Shows (refused_line (number why)) n t' → Tells (answer_value a) n t t'
+  pub tells_refused : {why : Refusal} {t' : List ℕ} → a ≡ Err why → Shows (refused_line (number why)) n t' → Tells (answer_value a) n t t'
   unfolding Tells answer_value
   tells_refused e x = rw e x

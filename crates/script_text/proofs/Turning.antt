@@ -9,7 +9,10 @@ use Rattle.basics.specs.Text.{Text, ascii}
 use Rattle.basics.specs.Outcome.{Outcome, refused, accepted, map_outcome}
 use Rattle.basics.specs.Buffer.{scratch_least}
 use Rattle.book.specs.Book.{Book}
+use Rattle.std.specs.Prelude.{Result, Ok, Err, is_err}
+use Rattle.book.specs.declared.Refusal.{Refusal}
 use Rattle.solvers.specs.declared.Answer.{Answer}
+use Rattle.solvers.specs.declared.Answer.TheVariants as answer
 use Rattle.solvers.specs.declared.Called.{Called}
 use Rattle.solvers.specs.declared.Session.{Session}
 use Rattle.solvers.specs.Session.{Written, text_of}
@@ -17,7 +20,6 @@ use Rattle.solvers.specs.Calls.{Host, fitting, Call, move_to, ask_for, reply_wit
 use Rattle.solvers.specs.Left.{Values, answer_value, values, session_after, left, called}
 use Rattle.solvers.specs.Returned.{lent, Returned}
 use Rattle.solvers.proofs.Taken.{call_fits}
-use Rattle.script_text.specs.declared.answers.Asked.{Asked}
 use Rattle.script_text.specs.declared.answers.Turn.{Turn}
 use Rattle.script_text.specs.Script.{text_size, stopped, stopping, moving, asking, desk, told, Printed, reply, answered, turn}
 use Rattle.script_text.specs.Turned.{Desk, Shows, Tells, is_refused, Turned, Closes}
@@ -76,31 +78,31 @@ module _ {r : Turn} {p : Printed} {t : List ℕ} (closing : List ℕ) where
     more = em;
   }
 
-pub stop_turned : (b : Book) (s : Session) {r : Turn} {t : List ℕ} (closing : List ℕ) → Shows stopped r.written t × (r.closed ≡ 0) × (r.more ≡ false) → Turned (turn b s stopping) r s t closing
+pub stop_turned : (b : Book) (s : Session) {n : ℕ} {t : List ℕ} (closing : List ℕ) → Shows stopped n t → Turned (turn b s stopping) (record { written = n; closed = 0; more = false }) s t closing
 unfolding turn
-stop_turned b s closing x = alone closing x.1 x.0 refl x.2
+stop_turned b s closing x = alone closing refl x refl refl
 
-module _ (b : Book) (s : Session) {sc tx : List ℕ} (d : Desk sc tx) {a : Answer} {l : Session} {t1 e1 sc1 t2 : List ℕ} {r : Turn} where
-  pub move_turned : (node : ℕ) (closing : List ℕ) → Returned (called b s (move_to (lent sc tx []) node)) (record { answer = a; session = l }) t1 e1 sc1
-      → Tells (answer_value a) r.written t1 t2 × (r.closed ≡ 0) × (r.more ≡ true) → Turned (turn b s (moving node)) r l t2 closing
+module _ (b : Book) (s : Session) {sc tx : List ℕ} (d : Desk sc tx) {a : Result Answer Refusal} {l : Session} {t1 e1 sc1 t2 : List ℕ} where
+  pub move_turned : {r : Turn} {n : ℕ} (node : ℕ) (closing : List ℕ) → Returned (called b s (move_to (lent sc tx []) node)) (record { answer = a; session = l }) t1 e1 sc1
+      → Tells (answer_value a) n t1 t2 → r ≡ record { written = n; closed = 0; more = true } → Turned (turn b s (moving node)) r l t2 closing
   unfolding turn
-  move_turned node closing q x =
-      let y = did b s (move_to (lent sc tx []) node) (same_move b s (lent sc tx []) desk (on_desk sc tx d.scratch_length d.text-length) node) q x.0 in
-      alone closing x.1 y.shows y.session x.2
+  move_turned node closing q x w =
+      let y = did b s (move_to (lent sc tx []) node) (same_move b s (lent sc tx []) desk (on_desk sc tx d.scratch_length d.text-length) node) q x in
+      rw w (alone closing refl y.shows y.session refl)
 
-  pub reply_closes : (n : ℕ) → Returned (called b s (reply_with (lent sc tx []) true (ascii "unsat"))) (record { answer = a; session = l }) t1 e1 sc1
-      → Tells (answer_value a) r.closed t1 t2 × (r.written ≡ n) × (r.more ≡ true) → Closes b s n r l t2
+  pub reply_closes : (n : ℕ) {m : ℕ} → Returned (called b s (reply_with (lent sc tx []) true (ascii "unsat"))) (record { answer = a; session = l }) t1 e1 sc1
+      → Tells (answer_value a) m t1 t2 → Closes b s n (record { written = n; closed = m; more = true }) l t2
   unfolding reply
   reply_closes n q x =
       let e = same_reply b s (lent sc tx []) desk (on_desk sc tx d.scratch_length d.text-length) true (ascii "unsat") in
-      let y = did b s (reply_with (lent sc tx []) true (ascii "unsat")) e q x.0 in
-      record { written = x.1; closes = y.shows; session = y.session; more = x.2 }
+      let y = did b s (reply_with (lent sc tx []) true (ascii "unsat")) e q x in
+      record { written = refl; closes = y.shows; session = y.session; more = refl }
 
 -- ---- an ask, and the reply to it
 refused_turned : (b : Book) (s : Session) (o : Outcome Written) {v : Outcome Values} {l : Session} {n : ℕ} {t : List ℕ} {r : Turn} (closing : List ℕ) → Did o s v l n t → is_refused v ≡ true
-    → (r.written ≡ n) × (r.closed ≡ 0) × (r.more ≡ true) → Turned (answered b s o) r l t closing
+    → r ≡ record { written = n; closed = 0; more = true } → Turned (answered b s o) r l t closing
 unfolding answered told session_after is_refused map_outcome
-refused_turned b s (refused k) closing y e x = alone closing x.1 (shows_at x.0 y.shows) y.session x.2
+refused_turned b s (refused k) closing y e x = rw x (alone closing refl y.shows y.session refl)
 refused_turned b s (accepted w) closing y e x = absurd (true≢false (sym e ∙ ap is_refused y.answer))
 
 accepted_turned : (b : Book) (s : Session) (o : Outcome Written) {v : Outcome Values} {l l2 : Session} {n : ℕ} {t c : List ℕ} {r : Turn} → Did o s v l n t → is_refused v ≡ false
@@ -118,16 +120,22 @@ accepted_turned b s (accepted w) {l2 = l2} {n = n} {c = c} {r = r} y e z =
       more = x.more;
     }
 
-module _ (b : Book) (s : Session) (node term : ℕ) {sc tx : List ℕ} (d : Desk sc tx) {a : Answer} {l : Session} {t1 e1 sc1 t2 : List ℕ} {k : Asked}
-    (q : Returned (called b s (ask_for (lent sc tx []) node term)) (record { answer = a; session = l }) t1 e1 sc1)
-    (x : Tells (answer_value a) k.written t1 t2 × (k.refused ≡ is_refused (answer_value a))) where
-  asked : Did (call b s (ask_for desk node term)) s (answer_value a) l k.written t2
-  asked = did b s (ask_for (lent sc tx []) node term) (same_ask b s (lent sc tx []) desk (on_desk sc tx d.scratch_length d.text-length) node term) q x.0
+told_apart : (a : Result Answer Refusal) → is_refused (answer_value a) ≡ is_err a
+unfolding is_refused answer_value
+told_apart (Err why) = refl
+told_apart (Ok (answer.Written n)) = refl
+told_apart (Ok (answer.Proved n)) = refl
+told_apart (Ok (answer.Unproved n m)) = refl
 
-  pub ask_refused : (closing : List ℕ) {r : Turn} → k.refused ≡ true → (r.written ≡ k.written) × (r.closed ≡ 0) × (r.more ≡ true) → Turned (turn b s (asking node term)) r l t2 closing
-  unfolding turn
-  ask_refused closing e y = refused_turned b s (call b s (ask_for desk node term)) closing asked (sym x.1 ∙ e) y
+module _ (b : Book) (s : Session) (node term : ℕ) {sc tx : List ℕ} (d : Desk sc tx) {a : Result Answer Refusal} {l : Session} {t1 e1 sc1 t2 : List ℕ} {n : ℕ}
+    (q : Returned (called b s (ask_for (lent sc tx []) node term)) (record { answer = a; session = l }) t1 e1 sc1) (x : Tells (answer_value a) n t1 t2) where
+  asked : Did (call b s (ask_for desk node term)) s (answer_value a) l n t2
+  asked = did b s (ask_for (lent sc tx []) node term) (same_ask b s (lent sc tx []) desk (on_desk sc tx d.scratch_length d.text-length) node term) q x
 
-  pub ask_replied : {l2 : Session} {c2 : List ℕ} {r : Turn} → k.refused ≡ false → Closes b l k.written r l2 c2 → Turned (turn b s (asking node term)) r l2 t2 c2
+  pub ask_refused : (closing : List ℕ) {r : Turn} {why : Refusal} → a ≡ Err why → r ≡ record { written = n; closed = 0; more = true } → Turned (turn b s (asking node term)) r l t2 closing
   unfolding turn
-  ask_replied e z = accepted_turned b s (call b s (ask_for desk node term)) asked (sym x.1 ∙ e) z
+  ask_refused closing e y = refused_turned b s (call b s (ask_for desk node term)) closing asked (told_apart a ∙ ap is_err e) y
+
+  pub ask_replied : {l2 : Session} {c2 : List ℕ} {r : Turn} {v : Answer} → a ≡ Ok v → Closes b l n r l2 c2 → Turned (turn b s (asking node term)) r l2 t2 c2
+  unfolding turn
+  ask_replied e z = accepted_turned b s (call b s (ask_for desk node term)) asked (told_apart a ∙ ap is_err e) z

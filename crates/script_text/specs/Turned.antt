@@ -1,19 +1,24 @@
 -- What the code of a turn reads, and leaves in its buffers and in the session, against the definition.
-use Rattle.std.specs.Prelude.{ℕ, ◌+◌, ◌≤◌, ◌≡◌, Bool, true, false, List, ◌++◌, length, take, if◌then◌else◌}
+use Rattle.std.specs.Prelude.{ℕ, ◌+◌, ◌≤◌, ◌≡◌, Bool, true, false, List, ◌++◌, length, take}
 use Rattle.basics.specs.Outcome.{Outcome, refused, accepted}
 use Rattle.basics.specs.Buffer.{scratch_least}
 use Rattle.basics.specs.Text.{Text}
 use Rattle.book.specs.Book.{Book}
+use Rattle.solvers.specs.declared.Answer.{Answer}
+use Rattle.solvers.specs.declared.Answer.TheVariants as answer
 use Rattle.solvers.specs.declared.Session.{Session}
 use Rattle.solvers.specs.Left.{Values, session_after}
 use Rattle.solvers.specs.Taken.{text_length}
 use Rattle.script_text.specs.declared.answers.Turn.{Turn}
-use Rattle.script_text.specs.declared.reading.Wanted.{Wanted}
+use Rattle.script_text.specs.declared.reading.Call.{Call}
+use Rattle.script_text.specs.declared.reading.Call.TheVariants as call
 use Rattle.script_text.specs.Script.{text_size, call_size, refused_line, Shape, moving, asking, stopping, told, reply, Printed}
 
 -- the call that the code has read
-unfoldable pub wants : Wanted → Shape
-wants w = if w.stops then stopping else if w.asks then asking w.node w.term else moving w.node
+unfoldable pub wants : Call → Shape
+wants (call.Move node) = moving node
+wants (call.Ask node term) = asking node term
+wants call.Stop = stopping
 
 -- the buffers of the program
 pub record Desk (scratch text : List ℕ) : Type 0 where
@@ -29,6 +34,12 @@ pub record Shows (t : Text) (n : ℕ) (buffer : List ℕ) : Type 0 where
 unfoldable pub Tells : Outcome Values → (n : ℕ) (buffer buffer' : List ℕ) → Type 0
 Tells (refused k) n buffer buffer' = Shows (refused_line k) n buffer'
 Tells (accepted v) n buffer buffer' = (n ≡ text_length v) × (buffer' ≡ buffer)
+
+-- how long an accepted call's text is
+abbrev pub length_told : Answer → ℕ
+length_told (answer.Written n) = n
+length_told (answer.Proved n) = n
+length_told (answer.Unproved n m) = n
 
 unfoldable pub is_refused : Outcome Values → Bool
 is_refused (refused k) = true

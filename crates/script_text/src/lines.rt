@@ -3,7 +3,7 @@ ghost use Rattle.std.specs.Prelude.{◌≡◌, ◌≤◌, length};
 ghost use Rattle.book.specs.Refusal.{number};
 ghost use Rattle.solvers.specs.Left.{answer_value};
 ghost use Rattle.script_text.specs.Script.{text_size, stopped, refused_line};
-ghost use Rattle.script_text.specs.Turned.{Shows, Tells, is_refused};
+ghost use Rattle.script_text.specs.Turned.{Shows, Tells, length_told};
 
 use basics::{clip, put, put_all, put_u64, sum};
 use book::Refusal;
@@ -35,26 +35,24 @@ pub fn put_refused(why: Refusal, text: &mut [u8]) -> usize
     sum(numbered, end)
 }
 
-// Writes the line of a refusal; the text of an accepted call stands in the buffer already.
-pub fn tell(answer: Answer, text: &mut [u8]) -> usize
-    requires { length text.old ≡ text_size }
-    ensures { Tells (answer_value answer) result text.old text.new }
+// How long an accepted call's text is.
+fn text_length(answer: Answer) -> usize
+    ensures { result ≡ length_told answer }
 {
     match answer {
         Answer::Written(n) => n,
         Answer::Proved(n) => n,
-        Answer::Unproved(n, reason) => n,
-        Answer::Refused(why) => put_refused(why, text),
+        Answer::Unproved(n, _) => n,
     }
 }
 
-pub fn is_refused(answer: Answer) -> bool
-    ensures { result ≡ is_refused (answer_value answer) }
+// Writes the line of a refusal; the text of an accepted call stands in the buffer already.
+pub fn tell(answer: Result<Answer, Refusal>, text: &mut [u8]) -> usize
+    requires { length text.old ≡ text_size }
+    ensures { Tells (answer_value answer) result text.old text.new }
 {
     match answer {
-        Answer::Written(n) => false,
-        Answer::Proved(n) => false,
-        Answer::Unproved(n, reason) => false,
-        Answer::Refused(why) => true,
+        Ok(accepted) => text_length(accepted),
+        Err(why) => put_refused(why, text),
     }
 }

@@ -1,7 +1,7 @@
 // The call that stands at a place of the input.
 ghost use Rattle.std.specs.Prelude.{◌≡◌, ◌+◌, ◌≤◌, length, drop};
 ghost use Rattle.book.specs.Book.{word};
-ghost use Rattle.script_text.specs.Script.{stopping, shape};
+ghost use Rattle.script_text.specs.Script.{shape};
 ghost use Rattle.script_text.specs.Turned.{wants};
 
 use super::opening::NUMBER;
@@ -17,13 +17,12 @@ const ASK: u32 = 2;
 
 const NO_TERM: u32 = 0;
 
-// It stops the program, asks, or else moves.
+// A call; `Stop` for what is none, or cut short.
 #[derive(Clone, Copy)]
-pub struct Wanted {
-    pub stops: bool,
-    pub asks: bool,
-    pub node: u32,
-    pub term: u32,
+pub enum Call {
+    Move { node: u32 },
+    Ask { node: u32, term: u32 },
+    Stop,
 }
 
 fn number(calls: &[u8], at: usize) -> u32
@@ -33,45 +32,19 @@ fn number(calls: &[u8], at: usize) -> u32
     word(calls, at) as u32
 }
 
-fn stop() -> Wanted
-    ensures { wants result ≡ stopping }
-{
-    Wanted {
-        stops: true,
-        asks: false,
-        node: 0,
-        term: 0,
-    }
-}
-
-pub fn read_call(calls: &[u8], at: usize) -> Wanted
+pub fn read_call(calls: &[u8], at: usize) -> Call
     requires { at ≤ length calls.now }
     ensures { shape (drop at calls.now) ≡ wants result }
 {
     if calls.len() - at < CALL {
-        return stop();
+        return Call::Stop;
     }
     let kind = number(calls, at);
     let node = number(calls, at + NUMBER);
     let term = number(calls, at + 2 * NUMBER);
-    if kind == ASK {
-        return Wanted {
-            stops: false,
-            asks: true,
-            node: node,
-            term: term,
-        };
-    }
-    if kind != MOVE {
-        return stop();
-    }
-    if term != NO_TERM {
-        return stop();
-    }
-    Wanted {
-        stops: false,
-        asks: false,
-        node: node,
-        term: term,
+    match kind {
+        ASK => Call::Ask { node, term },
+        MOVE if term == NO_TERM => Call::Move { node },
+        _ => Call::Stop,
     }
 }

@@ -1,11 +1,11 @@
 // One call of the input, whole, on the program's session: the session is lent to the call, and unsat is replied to an accepted ask.
-// What needs no session is split off, into `answers` and `reading`.
 ghost use Rattle.std.specs.Prelude.{◌≡◌, [], ◌≤◌, length, drop};
 ghost use Rattle.script_text.specs.Script.{text_size, moving, asking, shape, turn};
 ghost use Rattle.script_text.specs.Turned.{Desk, Turned, Closes};
 
-use super::answers::{Turn, alone, ask_told, move_told, reply_told, stop_told};
-use super::reading::read_call;
+use super::answers::Turn;
+use super::lines::{put_stopped, tell};
+use super::reading::{Call, read_call};
 use lent_sessions::{ask_mut, move_mut, reply_mut};
 use solvers::Session;
 
@@ -17,7 +17,7 @@ fn move_turn(s: &mut Session, book: &[u8], scratch: &mut [u8], node: u32, text: 
     ensures { Turned (turn book.now s.old (moving node)) result s.new text.new [] }
 {
     let answer = move_mut(s, book, scratch, node, text);
-    move_told(answer, text)
+    Turn::alone(tell(answer, text))
 }
 
 // The reply to an ask that has written so many bytes.
@@ -32,9 +32,13 @@ fn reply_turn(
     ensures { Closes book.now s.old written result s.new closing.new }
 {
     let word = UNSAT;
-    let mut nowhere = [0; 0];
-    let answer = reply_mut(s, book, scratch, true, &word, closing, &mut nowhere);
-    reply_told(answer, written, closing)
+    let answer = reply_mut(s, book, scratch, Ok(&word), closing, &mut []);
+    let closed = tell(answer, closing);
+    Turn {
+        written,
+        closed,
+        more: true,
+    }
 }
 
 fn ask_turn(
@@ -50,11 +54,11 @@ fn ask_turn(
     ensures { Turned (turn book.now s.old (asking node term)) result s.new text.new closing.new }
 {
     let answer = ask_mut(s, book, scratch, node, term, text);
-    let told = ask_told(answer, text);
-    if told.refused {
-        return alone(told.written);
+    let written = tell(answer, text);
+    match answer {
+        Ok(_) => reply_turn(s, book, scratch, written, closing),
+        Err(_) => Turn::alone(written),
     }
-    reply_turn(s, book, scratch, told.written, closing)
 }
 
 // The call that stands at `at`.
@@ -70,12 +74,13 @@ pub fn call_turn(
     requires { (at ≤ length calls.now) × Desk scratch.old text.old × (length closing.old ≡ text_size) }
     ensures { Turned (turn book.now s.old (shape (drop at calls.now))) result s.new text.new closing.new }
 {
-    let call = read_call(calls, at);
-    if call.stops {
-        return stop_told(text);
+    match read_call(calls, at) {
+        Call::Move { node } => move_turn(s, book, scratch, node, text),
+        Call::Ask { node, term } => ask_turn(s, book, scratch, node, term, text, closing),
+        Call::Stop => Turn {
+            written: put_stopped(text),
+            closed: 0,
+            more: false,
+        },
     }
-    if call.asks {
-        return ask_turn(s, book, scratch, call.node, call.term, text, closing);
-    }
-    move_turn(s, book, scratch, call.node, text)
 }

@@ -3,4 +3,6 @@ use Rattle.leskofar.specs.Exports.{answered}
 use Rattle.leskofar.proofs.session_calls.leskofar_model.Goals as goal
 
 pub returns : goal.returns
-returns c = record { answer = c.answer.ensures ∙ ap answered c.model_image.ensures.answer; image = c.model_image.ensures.image''; text = c.model_image.ensures.text'; reason = c.model_image.ensures.reason'; scratch = c.model_image.ensures.scratch'' }
+returns c =
+    let r = rw c.sent.ensures at c.model_image.ensures in
+    record { answer = c.answer.ensures ∙ ap answered r.answer; image = r.image''; text = r.text'; reason = r.reason'; scratch = r.scratch'' }
