@@ -16,7 +16,8 @@ use book::format::{CONSTANTS, CONTEXTS, LETTERS, LISTS, NAMES, SECTIONS, SIZES, 
 use book_contents::LIMITS;
 use book_layout::{put_section, put_table};
 
-// What is appended to a book: the bytes of new records. A text and lists that were handed over live longer than the rows that are made here.
+// What is appended to a book: the bytes of new records. The text and the lists of a caller have lifetimes of their own, since the borrow checker
+// covers no field that is borrowed for what two lifetimes have in common.
 #[derive(Clone, Copy)]
 pub struct Additions<'t, 'r, 'l> {
     pub letters: &'r [u8],

@@ -68,6 +68,7 @@ pub fn extend(
     let name = traced(book, trace);
     let parts = name_parts(count(book, LETTERS), &NO_NAMES, name.new);
     let contexts: [u8; ROW3] = row([parent as usize, term as usize, name.number]);
+    // The borrow checker does not cover NOTHING's rows beside two that are made here.
     let more = Additions {
         letters: b"",
         text: name.new.unwrap_or(b""),
