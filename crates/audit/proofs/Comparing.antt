@@ -8,7 +8,6 @@ use mathlib.Core.List.{List, [], ◌∷◌}
 use lib.ListN.{length, drop}
 use lib.Seq.{drop-cons}
 use Rattle.basics.specs.Text.{Text, same}
-use Rattle.basics.specs.Outcome.{accepted}
 use Rattle.book.specs.Book.{Book}
 use Rattle.smt_engines.specs.SmtEngines.{CMD_CHECK_SAT}
 use Rattle.smt_engines.specs.Reader.{cut, Stack, first, live, read}
@@ -26,10 +25,9 @@ use Rattle.level_lines.specs.Bytes.{total, stack_bytes}
 use Rattle.level_lines.proofs.Stacks.{lives_stack}
 use Rattle.level_lines.proofs.Bytes.{hear_bytes}
 use Rattle.question_lists.specs.Questions.{questions_of, question_at, stack_for}
-use Rattle.audit.specs.declared.Audited.TheVariants.{Agrees, Differs}
-use Rattle.audit.specs.declared.compare.Step.{Step}
-use Rattle.audit.specs.declared.compare.Step.TheVariants.{On, Stop}
-use Rattle.audit.specs.Audit.{differs_at, agreeing, verdict, audited_value}
+use Rattle.std.specs.Prelude.{Option, Some, None}
+use Rattle.std.proofs.lemmas.Option.{same_Some, none-some}
+use Rattle.audit.specs.Audit.{differs_at, agreeing, verdict, verdict_value}
 use Rattle.audit.specs.Comparable.{Comparable, Before, stepped, step_at}
 
 pub record Midway (b : Book) (ns : List ℕ) (s : Text) (starts : List ℕ) (n at k : ℕ) : Type 0 where
@@ -57,9 +55,9 @@ module _ (b : Book) (ns : List ℕ) (s : Text) (c : Comparable b ns s) where
       }
 
   module _ {starts : List ℕ} {n at k : ℕ} (m : Midway b ns s starts n at k) where
-    pub midway_done : length s ≤ at → audited_value Agrees ≡ accepted (verdict 1 (agreeing b (checks s) (questions_of ns)))
-    unfolding audited_value checks_from agreeing verdict
-    midway_done l = ap accepted (sym (m.decides ∙ rw (cut_behind s at l)))
+    pub midway_done : length s ≤ at → verdict_value None ≡ verdict 1 (agreeing b (checks s) (questions_of ns))
+    unfolding verdict_value checks_from agreeing verdict
+    midway_done l = sym (m.decides ∙ rw (cut_behind s at l))
 
     -- at a line
     module _ (h : at < length s) where
@@ -69,8 +67,8 @@ module _ (b : Book) (ns : List ℕ) (s : Text) (c : Comparable b ns s) where
       pub midway_ours : is_command (line_at s at) ≡ true
       midway_ours = next.command
 
-      pub midway_room : length starts ≡ places → n < length starts
-      midway_room e = omega (arith, e, lives_room m.lives (omega (arith, c.taken.short)))
+      pub midway_room : n < places
+      midway_room = lives_room m.lives (omega (arith, c.taken.short))
 
       -- the check-sats from here on, with this one in front
       check_here : same (line_at s at) CMD_CHECK_SAT ≡ true
@@ -131,35 +129,35 @@ module _ (b : Book) (ns : List ℕ) (s : Text) (c : Comparable b ns s) where
               few = omega arith;
             }
 
-        pub midway_on : {j : ℕ} {r : Step} → r ≡ step_at b ns s starts n at k → r ≡ On j → Midway b ns s later p (suc (line_end s at)) j
+        pub midway_on : {j : ℕ} {r : Option ℕ} → r ≡ step_at b ns s starts n at k → r ≡ Some j → Midway b ns s later p (suc (line_end s at)) j
         unfolding step_at stepped verdict
         midway_on {j} e o = by (same (line_at s at) CMD_CHECK_SAT) refl (same_levels (stack_of s starts n) (stack_for b (question_at (questions_of ns) k))) refl (sym e ∙ o)
           where
             by : (x : Bool) → same (line_at s at) CMD_CHECK_SAT ≡ x
                 → (y : Bool) → same_levels (stack_of s starts n) (stack_for b (question_at (questions_of ns) k)) ≡ y
-                → stepped x y k ≡ On j → Midway b ns s later p (suc (line_end s at)) j
+                → stepped x y k ≡ Some j → Midway b ns s later p (suc (line_end s at)) j
             by false q y a z =
-                let i : k ≡ j = cc in
+                let i : k ≡ j = same_Some k j z in
                 subst (λ (j : ℕ). Midway b ns s later p (suc (line_end s at)) j) i
                 (on k (omega (arith, m.few)) (rw (no_check q) at m.count) (rw (no_check q) at m.decides))
             by true q true a z =
-                let i : suc k ≡ j = cc in
+                let i : suc k ≡ j = same_Some (suc k) j z in
                 subst (λ (j : ℕ). Midway b ns s later p (suc (line_end s at)) j) i
                 (on (suc k) (omega (arith, m.few)) (omega (arith, m.count, ap length (check_here q))) (at_check q true (levels_here true a)))
-            by true q false a z = let f : ◌≡◌ {A = ℕ} 0 1 = cc in absurd (omega arith)
+            by true q false a z = absurd (none-some j z)
 
-      pub midway_stop : {r : Step} → r ≡ step_at b ns s starts n at k → r ≡ Stop
-          → audited_value (Differs (k + 1)) ≡ accepted (verdict 1 (agreeing b (checks s) (questions_of ns)))
-      unfolding step_at stepped audited_value verdict
+      pub midway_stop : {r : Option ℕ} → r ≡ step_at b ns s starts n at k → r ≡ None
+          → verdict_value (Some (k + 1)) ≡ verdict 1 (agreeing b (checks s) (questions_of ns))
+      unfolding step_at stepped verdict_value verdict
       midway_stop e o = by (same (line_at s at) CMD_CHECK_SAT) refl (same_levels (stack_of s starts n) (stack_for b (question_at (questions_of ns) k))) refl (sym e ∙ o)
         where
           by : (x : Bool) → same (line_at s at) CMD_CHECK_SAT ≡ x
               → (y : Bool) → same_levels (stack_of s starts n) (stack_for b (question_at (questions_of ns) k)) ≡ y
-              → stepped x y k ≡ Stop → accepted (differs_at (k + 1)) ≡ accepted (verdict 1 (agreeing b (checks s) (questions_of ns)))
-          by false q y a z = let f : ◌≡◌ {A = ℕ} 0 1 = cc in absurd (omega arith)
-          by true q true a z = let f : ◌≡◌ {A = ℕ} 0 1 = cc in absurd (omega arith)
-          by true q false a z = rw (add-one k) (ap accepted (sym (at_check q false (levels_here false a))))
+              → stepped x y k ≡ None → differs_at (k + 1) ≡ verdict 1 (agreeing b (checks s) (questions_of ns))
+          by false q y a z = absurd (none-some k (sym z))
+          by true q true a z = absurd (none-some (suc k) (sym z))
+          by true q false a z = rw (add-one k) (sym (at_check q false (levels_here false a)))
 
   -- the place as the code counts it
-  pub midway_next : (at : ℕ) {starts : List ℕ} {n k e : ℕ} → e ≡ line_end s at → Midway b ns s starts n (suc (line_end s at)) k → Midway b ns s starts n (e + 1) k
-  midway_next at q m = rw (q, add-one (line_end s at)) m
+  pub midway_next : (at : ℕ) {starts : List ℕ} {n k e : ℕ} → e ≡ suc (line_end s at) → Midway b ns s starts n (suc (line_end s at)) k → Midway b ns s starts n e k
+  midway_next at q m = rw q m

@@ -20,15 +20,11 @@ use Rattle.book_contents.specs.Contents.{laid_out, counts_fit}
 use Rattle.book_forest.specs.Forest.{is_forest}
 use Rattle.book_depth.specs.Depth.{shallow}
 use Rattle.book_names.specs.Names.{names_good}
-use Rattle.book_test.specs.BookTest.{in_range, book_test, ready, tested_value, book_test_call}
-use Rattle.book_test.specs.declared.Tested.{Tested}
-use Rattle.book_test.specs.declared.Tested.TheVariants as tested
+use Rattle.book_test.specs.BookTest.{in_range, book_test, ready, book_test_call}
 use Rattle.number_lists.specs.Numbers.{numbers}
-use Rattle.solvers.proofs.Returned.{stops, passes}
 use Rattle.live_lines.specs.LiveLines.{script_most}
 use Rattle.question_lists.specs.Questions.{questions_of, is_inside, is_complete}
-use Rattle.audit.specs.declared.Audited.{Audited}
-use Rattle.audit.specs.declared.Audited.TheVariants.{Refused}
+use Rattle.std.specs.Prelude.{Option, Result, Err}
 use Rattle.audit.specs.Audit.{has_no_tag, audited, audited_value, audit_call}
 use Rattle.audit.specs.Ladder.{is_long, with_script, checks_in, audit_in}
 
@@ -79,39 +75,38 @@ by_book_test n b ns s =
     three_in_place (ltb n scratch_least) (not (laid_out b)) (not (counts_fit b)) (is_long s) (not (in_range b)) (not (is_forest b)) (not (shallow b)) (not (names_good b)) _
 
 -- ---- the whole call
-module _ (b : Book) (scratch questions : List ℕ) (s : Text) {d : Tested} {after : List ℕ}
-    (h : (tested_value d ≡ (book_test_call b scratch).answer) × (after ≡ (book_test_call b scratch).scratch)) where
-  pub call_stops : (r : Refusal) {why : Refusal} → d ≡ tested.Refused why → number r ≡ with_script (is_long s) (number why)
-      → (audited_value (Refused r) ≡ (audit_call b scratch questions s).answer) × (after ≡ (audit_call b scratch questions s).scratch)
+module _ (b : Book) (scratch questions : List ℕ) (s : Text) {after : List ℕ} (h : after ≡ (book_test_call b scratch).scratch) where
+  pub call_stops : (r why : Refusal) → ready (length scratch) b ≡ refused (number why) → number r ≡ with_script (is_long s) (number why)
+      → (audited_value (Err r) ≡ (audit_call b scratch questions s).answer) × (after ≡ (audit_call b scratch questions s).scratch)
   unfolding audit_call audited_value book_test_call lowered ◌>>◌
-  call_stops r e l = (rw (by_book_test (length scratch) b (numbers questions) s, stops b scratch h.0 e, l), h.1)
+  call_stops r why e l = (rw (by_book_test (length scratch) b (numbers questions) s, e, l), h)
 
-  pub call_passes : (r : Audited) → d ≡ tested.Good → audited_value r ≡ audit_in b (numbers questions) s
+  pub call_passes : (r : Result (Option ℕ) Refusal) → ready (length scratch) b ≡ accepted tt → audited_value r ≡ audit_in b (numbers questions) s
       → (audited_value r ≡ (audit_call b scratch questions s).answer) × (after ≡ (audit_call b scratch questions s).scratch)
   unfolding audit_call book_test_call lowered ◌>>◌
-  call_passes r e g = (rw (by_book_test (length scratch) b (numbers questions) s, passes b scratch h.0 e) g, h.1)
+  call_passes r e g = (rw (by_book_test (length scratch) b (numbers questions) s, e) g, h)
 
 -- ---- in a book that passed its test
 module _ (b : Book) (ns : List ℕ) (s : Text) where
-  pub too_long : script_most < length s → audited_value (Refused CountOverLimit) ≡ audit_in b ns s
+  pub too_long : script_most < length s → audited_value (Err CountOverLimit) ≡ audit_in b ns s
   unfolding audited_value audit_in is_long refuse ◌>>◌ number
   too_long h = rw (lt-ltb script_most (length s) h)
 
   module _ (short : length s ≤ script_most) where
-    pub outside : all (questions_of ns) (is_inside b) ≡ false → audited_value (Refused NotInBook) ≡ audit_in b ns s
+    pub outside : all (questions_of ns) (is_inside b) ≡ false → audited_value (Err NotInBook) ≡ audit_in b ns s
     unfolding audited_value audit_in is_long refuse ◌>>◌ number
     outside h = rw (le-ltb script_most (length s) short, h)
 
     module _ (inside : all (questions_of ns) (is_inside b) ≡ true) where
-      pub incomplete : all (questions_of ns) (is_complete b) ≡ false → audited_value (Refused MissingAxiom) ≡ audit_in b ns s
+      pub incomplete : all (questions_of ns) (is_complete b) ≡ false → audited_value (Err MissingAxiom) ≡ audit_in b ns s
       unfolding audited_value audit_in is_long refuse ◌>>◌ number
       incomplete h = rw (le-ltb script_most (length s) short, inside, h)
 
       module _ (complete : all (questions_of ns) (is_complete b) ≡ true) where
-        pub tagged : {t : Bool} → t ≡ not (all (program b).literals has_no_tag) → t ≡ true → audited_value (Refused TagInBook) ≡ audit_in b ns s
+        pub tagged : {t : Bool} → t ≡ not (all (program b).literals has_no_tag) → t ≡ true → audited_value (Err TagInBook) ≡ audit_in b ns s
         unfolding audited_value audit_in is_long refuse ◌>>◌ number
         tagged e h = rw (le-ltb script_most (length s) short, inside, complete, ← e, h)
 
-        pub untagged : {t : Bool} (r : Audited) → t ≡ not (all (program b).literals has_no_tag) → t ≡ false → audited_value r ≡ checks_in b ns s → audited_value r ≡ audit_in b ns s
+        pub untagged : {t : Bool} (r : Result (Option ℕ) Refusal) → t ≡ not (all (program b).literals has_no_tag) → t ≡ false → audited_value r ≡ checks_in b ns s → audited_value r ≡ audit_in b ns s
         unfolding audit_in is_long refuse ◌>>◌
         untagged r e h g = g ∙ rw (le-ltb script_most (length s) short, inside, complete, ← e, h)

@@ -15,11 +15,11 @@ use Rattle.level_lines.specs.LevelLines.{stack_of}
 use Rattle.own_levels.specs.OwnLevels.{Compared}
 use Rattle.question_lists.specs.Questions.{questions_of, question_at, stack_for}
 use Rattle.question_lists.proofs.Inside.{node_inside, goal_inside}
-use Rattle.audit.specs.declared.compare.Step.TheVariants.{On, Stop}
+use Rattle.std.specs.Prelude.{Some, None}
 use Rattle.audit.specs.Comparable.{Before, stepped, step_at}
 
 module _ (b : Book) (ns : List ℕ) (s : Text) (starts : List ℕ) (n at k : ℕ) where
-  pub no_question : same (line_at s at) CMD_CHECK_SAT ≡ false → On k ≡ step_at b ns s starts n at k
+  pub no_question : same (line_at s at) CMD_CHECK_SAT ≡ false → Some k ≡ step_at b ns s starts n at k
   unfolding step_at stepped
   no_question e = rw e
 
@@ -41,10 +41,10 @@ module _ (b : Book) (ns : List ℕ) (s : Text) (starts : List ℕ) (n at k : ℕ
       unfolding stack_for
       own = rw (← node_is, ← goal-is) (sym e)
 
-      pub agrees_here : x ≡ true → On (k + 1) ≡ step_at b ns s starts n at k
+      pub agrees_here : x ≡ true → Some (k + 1) ≡ step_at b ns s starts n at k
       unfolding step_at stepped
       agrees_here t = rw (check, own, t, add-one k)
 
-      pub differs_here : x ≡ false → Stop ≡ step_at b ns s starts n at k
+      pub differs_here : x ≡ false → None ≡ step_at b ns s starts n at k
       unfolding step_at stepped
       differs_here t = rw (check, own, t)

@@ -1,5 +1,7 @@
 -- THE CALL audit: whether a foreign script leaves live, at each check-sat, the commands that the book gives for its question.
 use Rattle.std.specs.Prelude.{ℕ, suc, ◌≤◌, ◌≡◌, Bool, true, false, not, ◌||◌, List, [], ◌∷◌, eqb, ltb, length}
+use Rattle.std.specs.Prelude.{Result, Ok, Err, Some, None}
+use Rattle.std.specs.declared.option.Option as code
 use Rattle.std.proofs.Math.Option.{Option, none, some}
 use Rattle.basics.specs.Text.{Text}
 use Rattle.basics.specs.Lists.{all}
@@ -7,6 +9,7 @@ use Rattle.basics.specs.Buffer.{scratch_least, scratch_after}
 use Rattle.basics.specs.Outcome.{Outcome, refused, accepted, refuse, ◌>>◌}
 use Rattle.book.specs.RExpr.{Literal, is_tag}
 use Rattle.book.specs.Refusal.{number}
+use Rattle.book.specs.declared.Refusal.{Refusal}
 use Rattle.book.specs.Book.{Book}
 use Rattle.book.specs.Decode.{program}
 use Rattle.book_contents.specs.Contents.{laid_out, counts_fit}
@@ -20,8 +23,6 @@ use Rattle.script_checks.specs.ScriptChecks.{checks, is_foreign}
 use Rattle.live_lines.specs.LiveLines.{script_most}
 use Rattle.level_lines.specs.AsOften.{same_levels}
 use Rattle.question_lists.specs.Questions.{Question, questions_of, is_inside, is_complete, stack_for}
-use Rattle.audit.specs.declared.Audited as code
-use Rattle.audit.specs.declared.Audited.TheVariants as answer
 
 unfoldable pub has_no_tag : Option Literal → Bool
 has_no_tag none = true
@@ -66,11 +67,15 @@ audited scratch b numbers script = do
 pub record Small (o : Outcome Verdict) : Type 0 where
   pub most : (k : ℕ) → o ≡ accepted (differs_at k) → k ≤ script_most
 
+-- the first check-sat that differs, or none
+unfoldable pub verdict_value : code.Option ℕ → Verdict
+verdict_value None = agrees
+verdict_value (Some k) = differs_at k
+
 -- the number and values of each answer
-unfoldable pub audited_value : code.Audited → Outcome Verdict
-audited_value answer.Agrees = accepted agrees
-audited_value (answer.Differs k) = accepted (differs_at k)
-audited_value (answer.Refused r) = refused (number r)
+unfoldable pub audited_value : Result (code.Option ℕ) Refusal → Outcome Verdict
+audited_value (Ok differs) = accepted (verdict_value differs)
+audited_value (Err r) = refused (number r)
 
 -- the answer, and the scratch afterwards. The questions are handed over as bytes.
 pub record AuditCalled : Type 0 where

@@ -1,5 +1,5 @@
 -- What the comparison asks for, and what a line of the script leads to: the code's step through `verdict`.
-use Rattle.std.specs.Prelude.{ℕ, suc, ◌+◌, ◌≤◌, ◌<◌, ◌≡◌, Bool, true, false, List, length}
+use Rattle.std.specs.Prelude.{ℕ, suc, ◌+◌, ◌≤◌, ◌<◌, ◌≡◌, Bool, true, false, List, Option, Some, None, length}
 use Rattle.basics.specs.Text.{Text, same}
 use Rattle.basics.specs.Lists.{all}
 use Rattle.book.specs.Book.{Book}
@@ -13,8 +13,6 @@ use Rattle.level_lines.specs.AsOften.{same_levels}
 use Rattle.level_lines.specs.LevelLines.{stack_of}
 use Rattle.level_lines.specs.Bytes.{stack_bytes}
 use Rattle.own_levels.specs.OwnLevels.{check_bytes}
-use Rattle.audit.specs.declared.compare.Step.{Step}
-use Rattle.audit.specs.declared.compare.Step.TheVariants.{On, Stop}
 
 -- questions of a tested book, and a script that is not too long
 pub record Taken (b : Book) (numbers : List ℕ) (script : Text) : Type 0 where
@@ -37,12 +35,12 @@ pub record Before (b : Book) (numbers : List ℕ) (script : Text) (starts : List
   pub counted : k ≤ script_most
   pub asked : same (line_at script at) CMD_CHECK_SAT ≡ true → (k < length (questions_of numbers)) × (at + check_bytes ≤ script_most)
 
--- behind a line: so many check-sats agree; or the line is one that differs
-unfoldable pub stepped : (check agrees : Bool) → (k : ℕ) → Step
-stepped false agrees k = On k
-stepped true true k = On (suc k)
-stepped true false k = Stop
+-- behind a line: so many check-sats agree; none where the line is one that differs
+unfoldable pub stepped : (check agrees : Bool) → (k : ℕ) → Option ℕ
+stepped false agrees k = Some k
+stepped true true k = Some (suc k)
+stepped true false k = None
 
-unfoldable pub step_at : Book → (numbers : List ℕ) → Text → (starts : List ℕ) → (n at k : ℕ) → Step
+unfoldable pub step_at : Book → (numbers : List ℕ) → Text → (starts : List ℕ) → (n at k : ℕ) → Option ℕ
 step_at b numbers script starts n at k =
     stepped (same (line_at script at) CMD_CHECK_SAT) (same_levels (stack_of script starts n) (stack_for b (question_at (questions_of numbers) k))) k

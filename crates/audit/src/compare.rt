@@ -1,67 +1,50 @@
 // The verdict on a script, check-sat by check-sat.
-ghost use Rattle.std.specs.Prelude.{◌≡◌};
-ghost use Rattle.basics.specs.Outcome.{accepted};
+ghost use Rattle.std.specs.Prelude.{◌≡◌, length};
 ghost use Rattle.number_lists.specs.Numbers.{numbers};
 ghost use Rattle.question_lists.specs.Questions.{questions_of};
 ghost use Rattle.script_checks.specs.ScriptChecks.{checks};
-ghost use Rattle.audit.specs.Audit.{agreeing, verdict, audited_value};
+ghost use Rattle.audit.specs.Audit.{agreeing, verdict, verdict_value};
 ghost use Rattle.audit.specs.Comparable.{Comparable, Before, step_at};
 
-use super::Audited;
-use command_lines::{is_check_sat, line_end};
-use live_lines::{hear_line, no_starts};
+use arrayvec::ArrayVec;
+use command_lines::{CHECK_SAT, is_line, line_at};
+use live_lines::{Lines, hear_line};
 use own_levels::is_question;
-use question_lists::{goal_of, node_of};
+use question_lists::question_at;
 
-// Behind a line: so many check-sats agree; or the line is one that differs.
-#[derive(Clone, Copy)]
-pub enum Step {
-    On(usize),
-    Stop,
-}
-
-// The line at a place, with n live lines and k check-sats before it.
-fn take_line(
-    book: &[u8],
-    questions: &[u8],
-    script: &[u8],
-    starts: &[u16],
-    n: usize,
-    at: usize,
-    k: usize,
-) -> Step
-    requires { Before book.now (numbers questions.now) script.now starts.now n at k }
-    ensures { result ≡ step_at book.now (numbers questions.now) script.now starts.now n at k }
+// The line at a place, with the live lines and k check-sats before it: so many check-sats agree behind it; none where it is one that differs.
+fn take_line(book: &[u8], questions: &[u8], lines: Lines, at: usize, k: usize) -> Option<usize>
+    requires { Before book.now (numbers questions.now) lines.text.now lines.starts.now (length lines.starts.now) at k }
+    ensures { result ≡ step_at book.now (numbers questions.now) lines.entry.text.now lines.entry.starts.now (length lines.entry.starts.now) at k }
 {
-    if !is_check_sat(script, at) {
-        return Step::On(k);
+    if !is_line(lines.text, at, CHECK_SAT) {
+        return Some(k);
     }
-    let node = node_of(questions, k);
-    let goal = goal_of(questions, k);
-    if is_question(book, node, goal, script, at, starts, n) {
-        return Step::On(k + 1);
+    if is_question(book, question_at(questions, k), lines, at) {
+        return Some(k + 1);
     }
-    Step::Stop
+    None
 }
 
-// Keeps the live lines, and compares them at each check-sat.
-pub fn compare(book: &[u8], questions: &[u8], script: &[u8]) -> Audited
+// The first check-sat that differs, counted from 1; none where each agrees. Keeps the live lines, and compares them at each check-sat.
+pub fn compare(book: &[u8], questions: &[u8], script: &[u8]) -> Option<usize>
     requires { Comparable book.now (numbers questions.now) script.now }
-    ensures { audited_value result ≡ accepted (verdict 1 (agreeing book.now (checks script.now) (questions_of (numbers questions.now)))) }
+    ensures { verdict_value result ≡ verdict 1 (agreeing book.now (checks script.now) (questions_of (numbers questions.now))) }
 {
-    let mut starts = no_starts();
-    let mut n = 0;
+    let mut starts = ArrayVec::new();
     let mut at = 0;
-    let mut k = 0;
+    let mut agreed = 0;
     while at < script.len() {
-        match take_line(book, questions, script, &starts, n, at, k) {
-            Step::Stop => return Audited::Differs(k + 1),
-            Step::On(agreed) => {
-                n = hear_line(script, at, &mut starts, n);
-                at = line_end(script, at) + 1;
-                k = agreed;
-            }
-        }
+        let lines = Lines {
+            text: script,
+            starts: starts.as_slice(),
+        };
+        let Some(next) = take_line(book, questions, lines, at, agreed) else {
+            return Some(agreed + 1);
+        };
+        hear_line(script, at, &mut starts);
+        at += line_at(script, at).len() + 1;
+        agreed = next;
     }
-    Audited::Agrees
+    None
 }

@@ -16,10 +16,7 @@ fn is_tag_term(book: &[u8], t: usize) -> bool
     requires { Promise book.now × (t < size book.now terms) }
     ensures { result ≡ not (has_no_tag (literal_at book.now t)) }
 {
-    if field(book, TERMS, t, KIND) != Kind::CustomLiteral as usize {
-        return false;
-    }
-    is_tag(book, t)
+    field(book, TERMS, t, KIND) == Kind::CustomLiteral as usize && is_tag(book, t)
 }
 
 // Every term is looked at, used or not.
@@ -27,13 +24,5 @@ pub fn has_tag(book: &[u8]) -> bool
     requires { Promise book.now }
     ensures { result ≡ not (all (program book.now).literals has_no_tag) }
 {
-    let all = count(book, TERMS);
-    let mut t = 0;
-    while t < all {
-        if is_tag_term(book, t) {
-            return true;
-        }
-        t += 1;
-    }
-    false
+    (0..count(book, TERMS)).any(|t| is_tag_term(book, t))
 }

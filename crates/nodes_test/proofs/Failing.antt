@@ -7,7 +7,6 @@ use mathlib.Core.Bool.{true, false}
 use mathlib.Core.List.{List, [], ◌∷◌}
 use mathlib.Core.Option.{none, some, map}
 use lib.ListN.{length, get_or}
-use Rattle.basics.specs.Outcome.{accepted}
 use Rattle.book.specs.Book.{Book, contexts, size}
 use Rattle.book.specs.Program.{Program, path, path_up}
 use Rattle.book.specs.Decode.{program}
@@ -18,8 +17,8 @@ use Rattle.engine.specs.Engine.{state_at, IsState, Standing}
 use Rattle.solvers.specs.Rule.{standing}
 use Rattle.solvers.proofs.Good.{good}
 use Rattle.solvers.proofs.Enough.{levels_length}
-use Rattle.nodes_test.specs.declared.NodesTested.TheVariants.{Pass, Fails}
-use Rattle.nodes_test.specs.NodesTest.{could_move, first_failing, nodes_tested_value}
+use Rattle.std.specs.Prelude.{Some, None}
+use Rattle.nodes_test.specs.NodesTest.{could_move, first_failing, position_value}
 
 -- those before place i pass
 abbrev pub Passed : Program → List ℕ → ℕ → Type 0
@@ -67,10 +66,10 @@ module _ (b : Book) (ns : List ℕ) where
         at_place clear k j (yes e) = m.passed k e
         at_place clear k j (no e) = let q : k ≡ i = omega arith in rw (q, ← is, clear)
 
-    pub moving_stop : r.missing ≡ true → i < length ns → nodes_tested_value (Fails i) ≡ accepted (first_failing (program b) ns)
-    unfolding could_move nodes_tested_value
+    pub moving_stop : r.missing ≡ true → i < length ns → position_value (Some i) ≡ first_failing (program b) ns
+    unfolding could_move position_value
     moving_stop h l = rw (first-is (program b) ns i l m.passed (rw (← is, sym s.missing ∙ h)))
 
-  pub moving_done : {i at : ℕ} {ls : List ℕ} → Moving b ns i at ls → length ns ≤ i → nodes_tested_value Pass ≡ accepted (first_failing (program b) ns)
-  unfolding nodes_tested_value
+  pub moving_done : {i at : ℕ} {ls : List ℕ} → Moving b ns i at ls → length ns ≤ i → position_value None ≡ first_failing (program b) ns
+  unfolding position_value
   moving_done {i} m l = let e : i ≡ length ns = omega (arith, m.few) in rw (none_is (program b) ns (rw e at m.passed))

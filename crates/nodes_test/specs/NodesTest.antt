@@ -1,5 +1,7 @@
 -- The test of a list of nodes: whether a fresh session could move to each of them, or which is the first that it could not.
 use Rattle.std.specs.Prelude.{ℕ, suc, Bool, not, List, [], ◌∷◌, leb, ltb, length, if◌then◌else◌}
+use Rattle.std.specs.Prelude.{Result, Ok, Err, Some, None}
+use Rattle.std.specs.declared.option.Option as code
 use Rattle.std.proofs.Math.Option.{Option, none, some, map}
 use Rattle.basics.specs.Lists.{all}
 use Rattle.basics.specs.Outcome.{Outcome, refused, accepted, refuse, ◌>>◌}
@@ -11,8 +13,7 @@ use Rattle.book.specs.Decode.{program}
 use Rattle.book_test.specs.BookTest.{ready}
 use Rattle.number_lists.specs.Numbers.{numbers}
 use Rattle.solvers.specs.Rule.{standing}
-use Rattle.nodes_test.specs.declared.NodesTested as code
-use Rattle.nodes_test.specs.declared.NodesTested.TheVariants as answer
+use Rattle.book.specs.declared.Refusal.{Refusal}
 
 -- no axiom is missed on the way from the root down to the node
 unfoldable pub could_move : Program → (node : ℕ) → Bool
@@ -44,11 +45,15 @@ nodes_tested scratch b nodes = do
   ready scratch b
   nodes_in b nodes
 
+-- a position that is answered, or none
+unfoldable pub position_value : code.Option ℕ → Option ℕ
+position_value None = none
+position_value (Some position) = some position
+
 -- the number and values of each answer
-unfoldable pub nodes_tested_value : code.NodesTested → Outcome (Option ℕ)
-nodes_tested_value answer.Pass = accepted none
-nodes_tested_value (answer.Fails position) = accepted (some position)
-nodes_tested_value (answer.Refused r) = refused (number r)
+unfoldable pub nodes_tested_value : Result (code.Option ℕ) Refusal → Outcome (Option ℕ)
+nodes_tested_value (Ok position) = accepted (position_value position)
+nodes_tested_value (Err r) = refused (number r)
 
 -- THE CALL: its answer, and the scratch afterwards. The list is handed over as bytes.
 pub record NodesCalled : Type 0 where

@@ -1,18 +1,20 @@
 #![tactic(auto)]
 // Our own text of a question, from the root, and whether the live lines of a script leave its levels.
-ghost use Rattle.std.specs.Prelude.{◌≡◌, ◌≤◌, length};
+ghost use Rattle.std.specs.Prelude.{◌≡◌, length};
 ghost use Rattle.smt_engines.specs.Reader.{Stack, live, read};
 ghost use Rattle.solvers.specs.declared.Owed.TheVariants.{Reply};
 ghost use Rattle.solvers.specs.Rule.{present, must_live};
-ghost use Rattle.live_lines.specs.LiveLines.{script_most, places};
+ghost use Rattle.live_lines.specs.LiveLines.{script_most};
 ghost use Rattle.level_lines.specs.AsOften.{same_levels};
 ghost use Rattle.level_lines.specs.LevelLines.{stack_of};
 ghost use Rattle.own_levels.specs.OwnLevels.{Compared, OwnText, Started};
 
-use command_lines::line_end;
+use arrayvec::ArrayVec;
+use command_lines::line_at;
 use engine::{ROOT, question};
 use level_lines::same_levels;
-use live_lines::{SCRIPT_MOST, join_line, no_starts};
+use live_lines::{Lines, PLACES, SCRIPT_MOST};
+use question_lists::Question;
 use session_levels::blank;
 
 // `(check-sat)` and its end.
@@ -26,50 +28,45 @@ fn blank_text() -> [u8; SCRIPT_MOST]
 }
 
 // Where each line of our text starts.
-fn own_starts(own: &[u8], starts: &mut [u16]) -> usize
-    requires { OwnText own.now × (length starts.old ≡ places) }
-    ensures { Started own.now starts.new result }
+fn own_starts(own: &[u8]) -> ArrayVec<u16, PLACES>
+    requires { OwnText own.now }
+    ensures { Started own.now result.items (length result.items) }
 {
-    let mut n = 0;
+    let mut starts = ArrayVec::new();
     let mut at = 0;
     while at < own.len() {
-        n = join_line(starts, n, at);
-        at = line_end(own, at) + 1;
+        starts.push(at as u16);
+        at += line_at(own, at).len() + 1;
     }
-    n
+    starts
 }
 
 // The live lines leave the levels of our text.
-fn same_text(script: &[u8], starts: &[u16], n: usize, own: &[u8]) -> bool
-    requires { OwnText own.now × (n ≤ length starts.now) }
-    ensures { (su : Stack) → read own.now ≡ live su → result ≡ same_levels (stack_of script.now starts.now n) su }
+fn same_text(lines: Lines, own: &[u8]) -> bool
+    requires { OwnText own.now }
+    ensures { (su : Stack) → read own.now ≡ live su → result ≡ same_levels (stack_of lines.entry.text.now lines.entry.starts.now (length lines.entry.starts.now)) su }
 {
-    let mut others = no_starts();
-    let m = own_starts(own, &mut others);
-    same_levels(script, starts, n, own, &others, m)
+    let starts = own_starts(own);
+    let ours = Lines {
+        text: own,
+        starts: starts.as_slice(),
+    };
+    same_levels(lines, ours)
 }
 
 // The live lines before the check-sat at `at` leave the levels of the question. Live lines are lines of the script: a text that is longer
 // than the script up to there has other levels, and is not looked at.
-pub fn is_question(
-    book: &[u8],
-    node: usize,
-    goal: usize,
-    script: &[u8],
-    at: usize,
-    starts: &[u16],
-    n: usize,
-) -> bool
-    requires { Compared book.now node goal script.now at starts.now n }
-    ensures { result ≡ same_levels (stack_of script.now starts.now n) (must_live book.now (present node goal Reply)) }
+pub fn is_question(book: &[u8], asked: Question, lines: Lines, at: usize) -> bool
+    requires { Compared book.now asked.node asked.goal lines.text.now at lines.starts.now (length lines.starts.now) }
+    ensures { result ≡ same_levels (stack_of lines.entry.text.now lines.entry.starts.now (length lines.entry.starts.now)) (must_live book.now (present asked.node asked.goal Reply)) }
 {
     let mut levels = blank();
     let mut own = blank_text();
-    let done = question(book, ROOT, node, goal, &mut levels, &mut own);
+    let done = question(book, ROOT, asked.node, asked.goal, &mut levels, &mut own);
     let end = done.at;
     if at + CHECK_SAT < end {
         return false;
     }
     let before = end - CHECK_SAT;
-    same_text(script, starts, n, &own[..before])
+    same_text(lines, &own[..before])
 }

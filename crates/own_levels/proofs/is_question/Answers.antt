@@ -17,7 +17,7 @@ pub slice_bounds-same_text-end : goal.slice_bounds-same_text-end
 slice_bounds-same_text-end c = simp length-take (omega (arith, at_length c.question-done.ensures.text, c.blank_text-own.ensures, c.requires.room, c.if-at-end.false))
 
 pub same_text-requires : goal.same_text-requires
-same_text-requires c = (own_short _ c.requires.promise _ _ c.requires.asked c.question-done.ensures.text c.blank_text-own.ensures (omega (arith, c.requires.room, c.if-at-end.false)), c.requires.held)
+same_text-requires c = own_short _ c.requires.promise _ _ c.requires.asked c.question-done.ensures.text c.blank_text-own.ensures (omega (arith, c.requires.room, c.if-at-end.false))
 
 pub returns : goal.returns
 returns c = c.same_text.ensures _ (own_read _ c.requires.promise _ _ c.requires.asked c.question-done.ensures.text c.blank_text-own.ensures (omega (arith, c.requires.room, c.if-at-end.false)))

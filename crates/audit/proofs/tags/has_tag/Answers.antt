@@ -1,19 +1,15 @@
-use Prim.Native.Nat.{◌-◌}
-use native.Mathlib.Omega.{arith}
-use Rattle.audit.proofs.TagTerms.{untagged_none, untagged_more, tag_found, untagged_done}
+use Rattle.std.proofs.Common.{◌∙◌, refl, not, arith, rules}
+use Rattle.std.proofs.lemmas.Iterator.{YieldsList-from_range}
+use Rattle.std.proofs.lemmas.Iterator.Search.{any_from_yields_List}
+use borrow.Author.Tests.{tests}
+use Rattle.book.specs.Book.{terms, size}
+use Rattle.book.specs.Decode.{literal_at}
+use Rattle.audit.specs.Audit.{has_no_tag}
+use Rattle.audit.proofs.TagTerms.{by_range}
 use Rattle.audit.proofs.tags.has_tag.Goals as goal
 
-pub loop-t-init : goal.loop-t-init
-loop-t-init c = (untagged_none c.args.book.now, omega arith)
-
-pub is_tag_term-requires : goal.is_tag_term-requires
-is_tag_term-requires c = (c.requires, omega (arith, c.count-all.ensures.is, c.loop-t-test.true))
-
-pub returns-then-is_tag_term : goal.returns-then-is_tag_term
-returns-then-is_tag_term c = tag_found _ c.loop-t.t (omega (arith, c.count-all.ensures.is, c.loop-t-test.true)) c.is_tag_term.ensures c.if-is_tag_term.true
-
-pub loop-t-preserved : goal.loop-t-preserved
-loop-t-preserved c = (untagged_more _ c.loop-t.t (omega (arith, c.count-all.ensures.is, c.loop-t-test.true)) c.is_tag_term.ensures c.loop-t.invariant.0 c.if-is_tag_term.false, omega (arith, c.loop-t-test.true))
-
 pub returns : goal.returns
-returns c = untagged_done _ c.loop-t.invariant.0 (omega (arith, c.count-all.ensures.is, c.loop-t-test.false, c.loop-t.invariant.1))
+returns c =
+    any_from_yields_List (λ t. not (has_no_tag (literal_at c.args.book.now t))) _ _ _ c.any.ensures.ran
+    (YieldsList-from_range 0 c.count.result (size c.args.book.now terms) refl (omega (arith, c.count.ensures.is))) (λ x b q k. search (rules, tests))
+    ∙ by_range c.args.book.now
