@@ -4,7 +4,8 @@ ghost use Rattle.audit.specs.Audit.{Small, audited_value, audit_call};
 ghost use Rattle.leskofar.specs.Exports.{audit_answered};
 
 use super::ACCEPTED;
-use audit::{Audited, audit};
+use audit::audit;
+use book::Refusal;
 use refusal_numbers::number;
 
 // Where no check-sat differs.
@@ -18,20 +19,20 @@ pub struct AuditAnswered {
     pub differs: u32,
 }
 
-fn answer(a: Audited) -> AuditAnswered
+fn answer(a: Result<Option<usize>, Refusal>) -> AuditAnswered
     requires { Small (audited_value a) }
     ensures { result ≡ audit_answered (audited_value a) }
 {
     match a {
-        Audited::Agrees => AuditAnswered {
+        Ok(None) => AuditAnswered {
             refusal: ACCEPTED,
             differs: NONE,
         },
-        Audited::Differs(k) => AuditAnswered {
+        Ok(Some(k)) => AuditAnswered {
             refusal: ACCEPTED,
             differs: k as u32,
         },
-        Audited::Refused(r) => AuditAnswered {
+        Err(r) => AuditAnswered {
             refusal: number(r),
             differs: NONE,
         },

@@ -4,7 +4,8 @@ ghost use Rattle.nodes_test.specs.NodesTest.{nodes_tested_value, nodes_test_call
 ghost use Rattle.leskofar.specs.Exports.{nodes_answered};
 
 use super::ACCEPTED;
-use nodes_test::{NodesTested, nodes_test};
+use book::Refusal;
+use nodes_test::nodes_test;
 use refusal_numbers::number;
 
 // What the test leads to: each node passes, or one fails.
@@ -21,21 +22,21 @@ pub struct NodesAnswered {
     pub position: u64,
 }
 
-fn answer(t: NodesTested) -> NodesAnswered
+fn answer(t: Result<Option<usize>, Refusal>) -> NodesAnswered
     ensures { result ≡ nodes_answered (nodes_tested_value t) }
 {
     match t {
-        NodesTested::Pass => NodesAnswered {
+        Ok(None) => NodesAnswered {
             refusal: ACCEPTED,
             result: PASS,
             position: 0,
         },
-        NodesTested::Fails(n) => NodesAnswered {
+        Ok(Some(n)) => NodesAnswered {
             refusal: ACCEPTED,
             result: FAILS,
             position: n as u64,
         },
-        NodesTested::Refused(r) => NodesAnswered {
+        Err(r) => NodesAnswered {
             refusal: number(r),
             result: 0,
             position: 0,
