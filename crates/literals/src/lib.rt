@@ -28,7 +28,9 @@ pub struct Search {
     pub gone: usize,
 }
 
-// The name is declared. The search has one caller, in which the compiler sees that its count is not read.
+// The name is declared. The search has one caller, in which the compiler sees that its count is not read. Not inlined: its values would
+// cost stack in each nested call of the walk.
+#[inline(never)]
 fn is_declared(book: &[u8], sought: Sought, s: &[u8], typ: &[u8], levels: &[Level]) -> bool
     requires { Promise book.now × Seeks book.now sought s.now typ.now × (length levels.now ≡ level_count) }
     ensures { result ≡ name_in (barred s.now typ.now) (program book.now).literals (drop literal_places levels.now) }
