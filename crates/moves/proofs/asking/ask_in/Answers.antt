@@ -11,9 +11,6 @@ returns-then-count-node c = not_here _ _ _ _ _ (omega (arith, c.count.ensures.is
 pub returns-then-count-goal : goal.returns-then-count-goal
 returns-then-count-goal c = no-term _ _ _ _ _ (omega (arith, c.count.ensures.is, c.if-count-node.false)) (omega (arith, c.count-2.ensures.is, c.if-count-goal.true))
 
-pub is_session-requires : goal.is_session-requires
-is_session-requires c = c.requires
-
 pub returns-then-not-is_session : goal.returns-then-not-is_session
 returns-then-not-is_session c = not_session _ _ _ _ _ (omega (arith, c.count.ensures.is, c.if-count-node.false)) (omega (arith, c.count-2.ensures.is, c.if-count-goal.false)) c.is_session.ensures (not-true _ (not_from_false _ c.if-not-is_session.true))
 

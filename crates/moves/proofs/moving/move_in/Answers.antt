@@ -8,9 +8,6 @@ use Rattle.moves.proofs.moving.move_in.Goals as goal
 pub returns-then-count-node : goal.returns-then-count-node
 returns-then-count-node c = not_here _ _ _ _ (omega (arith, c.count.ensures.is, c.if-count-node.true))
 
-pub is_session-requires : goal.is_session-requires
-is_session-requires c = c.requires
-
 pub returns-then-not-is_session : goal.returns-then-not-is_session
 returns-then-not-is_session c = not_session _ _ _ _ (omega (arith, c.count.ensures.is, c.if-count-node.false)) c.is_session.ensures (not-true _ (not_from_false _ c.if-not-is_session.true))
 

@@ -24,8 +24,5 @@ returns-in_err-wide c =
     let p = err_from_is_err_and c.from_residual-in_err-wide.result c.from_residual-in_err-wide.ensures.1 in
     rw (p.1, p.2) (not_turned _ _ _ _ c.args.scratch.now c.args.image.now (widens c.args.book.now c.args.scratch.now c.args.narrow.now c.args.image.now) c.book_test.ensures c.in_ok-book_test.was (omega (arith, c.if-image-ne-IMAGE.false)) (c.widen_in.ensures ∙ ap (widened_in c.args.book.now) c.load_narrow.ensures) c.in_err-wide.was)
 
-pub save-requires : goal.save-requires
-save-requires c = omega (arith, c.if-image-ne-IMAGE.false)
-
 pub returns : goal.returns
 returns c = turned _ _ _ _ c.args.scratch.now c.args.image.now (widens c.args.book.now c.args.scratch.now c.args.narrow.now c.args.image.now) c.book_test.ensures c.in_ok-book_test.was (omega (arith, c.if-image-ne-IMAGE.false)) (c.widen_in.ensures ∙ ap (widened_in c.args.book.now) c.load_narrow.ensures) c.in_ok-wide.was (length_written _ (search rules)) c.save.ensures

@@ -4,9 +4,6 @@ use Rattle.replies.proofs.Behind.{model_outside, model_not_owed, model-owed}
 use Rattle.std.proofs.lemmas.Bool.{not_from_false, not_from_true}
 use Rattle.replies.proofs.model.model_in.Goals as goal
 
-pub is_session-requires : goal.is_session-requires
-is_session-requires c = c.requires
-
 pub returns-then-not-is_session : goal.returns-then-not-is_session
 returns-then-not-is_session c = model_outside _ _ _ _ _ _ (failed c.is_session.ensures (not_from_false _ c.if-not-is_session.true))
 

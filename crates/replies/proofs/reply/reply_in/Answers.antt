@@ -4,9 +4,6 @@ use Rattle.replies.proofs.Behind.{reply_outside, reply_not_owed, reply-owed}
 use Rattle.std.proofs.lemmas.Bool.{not_from_false, not_from_true}
 use Rattle.replies.proofs.reply.reply_in.Goals as goal
 
-pub is_session-requires : goal.is_session-requires
-is_session-requires c = c.requires
-
 pub returns-then-not-is_session : goal.returns-then-not-is_session
 returns-then-not-is_session c = reply_outside _ _ _ _ _ _ (failed c.is_session.ensures (not_from_false _ c.if-not-is_session.true))
 
