@@ -6,9 +6,8 @@ ghost use Rattle.book.specs.Decode.{literal_at, program};
 ghost use Rattle.book_test.specs.Promise.{Promise};
 ghost use Rattle.audit.specs.Audit.{has_no_tag};
 
-use book::Kind;
 use book::format::{KIND, TERMS};
-use book::{count, field};
+use book::{Kind, count, field};
 use literals::is_tag;
 
 // Term t is such a literal. A constant or an operator of that name is none.

@@ -10,10 +10,10 @@ ghost use Rattle.contexts.specs.Path.{IsNode, IsBelow};
 ghost use Rattle.rsolver.specs.Listing.{listing_line, print_context, print_proof_obligation, listing_call};
 ghost use Rattle.solver_expr.specs.Print.{printed_value};
 
-use book_test::book_test;
 use basics::put_at;
 use book::format::{CONTEXT_TERM, CONTEXTS, TERMS};
 use book::{Refusal, count, field};
+use book_test::book_test;
 use listing_terms::rexpr_to_string;
 use solver_expr::fitted;
 

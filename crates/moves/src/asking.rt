@@ -9,9 +9,9 @@ ghost use Rattle.solvers.specs.Returned.{lent, Returned, Given};
 ghost use Rattle.solvers.specs.Rule.{goal_state, present, session_at};
 ghost use Rattle.moves.specs.Moves.{Asker, Measured, Arrived, ask_commands, ask_known, ask_in};
 
-use book_test::book_test;
 use book::format::{CONTEXTS, TERMS};
 use book::{Refusal, count};
+use book_test::book_test;
 use engine::question;
 use levels::Progress;
 use session_test::is_session;

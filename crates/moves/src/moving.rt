@@ -10,9 +10,9 @@ ghost use Rattle.solvers.specs.Returned.{lent, Returned, Given};
 ghost use Rattle.solvers.specs.Rule.{move_commands, present, session_at};
 ghost use Rattle.moves.specs.Moves.{Mover, Measured, Arrived, move_known, move_in};
 
-use book_test::book_test;
 use book::format::CONTEXTS;
 use book::{Refusal, count};
+use book_test::book_test;
 use engine::set_context;
 use levels::Progress;
 use session_test::is_session;

@@ -3,10 +3,10 @@
 ghost use Rattle.solvers.specs.Narrow.{widened_on_image, narrowed_on_image};
 ghost use Rattle.narrow_sessions.specs.Turned.{ImageTurned};
 
-use book_test::book_test;
 use super::image::{NARROW_IMAGE, load_narrow, save_narrow};
 use super::turning::{narrow_in, widen_in};
 use book::Refusal;
+use book_test::book_test;
 use images::{IMAGE, load, save};
 
 // Any book, scratch and bytes are taken.

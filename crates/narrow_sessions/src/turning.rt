@@ -9,9 +9,9 @@ ghost use Rattle.solvers.specs.Narrow.{narrow_depth, wide_of, narrow_of, no_narr
 ghost use Rattle.solvers.specs.Returned.{outcome_of};
 ghost use Rattle.narrow_sessions.specs.Turned.{widened_in, narrowed_in, TurnReturned};
 
-use book_test::book_test;
 use super::level_turns::{narrow_levels, wide_levels};
 use book::Refusal;
+use book_test::book_test;
 use engine::depth_of;
 use session_test::is_session;
 use solvers::{NarrowSession, Session};

@@ -3,9 +3,9 @@ ghost use Rattle.std.specs.Prelude.{◌≡◌};
 ghost use Rattle.solver_expr.specs.Print.{printed_value, print_call};
 ghost use Rattle.printing.specs.Calls.{layout_of};
 
-use book_test::book_test;
 use book::format::TERMS;
 use book::{Refusal, count};
+use book_test::book_test;
 use printer::{SExprPrintConfig, to_string};
 use solver_expr::{fitted, to_sexpr};
 

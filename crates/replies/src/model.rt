@@ -6,10 +6,10 @@ ghost use Rattle.solvers.specs.Left.{called};
 ghost use Rattle.solvers.specs.Returned.{lent, lent_text, Returned, Given};
 ghost use Rattle.replies.specs.Replies.{model_owed, model_in};
 
-use book_test::book_test;
 use super::closing::close_unproved;
 use super::reply::is_unsat;
 use book::Refusal;
+use book_test::book_test;
 use session_test::is_session;
 use solvers::{Answer, Called, Owed, Session};
 

@@ -7,10 +7,10 @@ ghost use Rattle.solvers.specs.Left.{called};
 ghost use Rattle.solvers.specs.Returned.{lent, heard, Returned, Given};
 ghost use Rattle.replies.specs.Replies.{reply_in};
 
-use book_test::book_test;
 use super::closing::{close_proved, close_unproved};
 use basics::same;
 use book::Refusal;
+use book_test::book_test;
 use session_test::is_session;
 use smt_engines::get_model;
 use solvers::{Answer, Called, Owed, Session};

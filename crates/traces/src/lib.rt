@@ -10,9 +10,9 @@ ghost use Rattle.rsolver.specs.Trace.{trace_line, print_trace, trace_call};
 ghost use Rattle.solver_expr.specs.Print.{printed_value, Answered};
 ghost use Rattle.traces.specs.Call.{trace_in};
 
-use book_test::book_test;
 use book::Refusal;
 use book::format::{CONTEXT_TRACE, CONTEXTS};
+use book_test::book_test;
 use solver_expr::fitted;
 
 // The field of a node without trace; that of another is its name's number and one.
