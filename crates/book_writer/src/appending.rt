@@ -81,7 +81,7 @@ fn lay_out(
     test_and_copy(&whole[..length], scratch, number, out)
 }
 
-// Behind refusal 7. `right`: what was handed over is as it must be.
+// Behind refusal 7. `right`: what was handed over is as it must be. A flag and no Err, since it is told only behind refusal 3.
 pub fn append(
     book: &[u8],
     scratch: &mut [u8],

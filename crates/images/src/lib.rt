@@ -54,6 +54,7 @@ fn word(image: &[u8], at: usize) -> u32
     book::word(image, at) as u32
 }
 
+// Total, and no TryFrom: `is_kind` has tested the number with the rest of the head.
 fn owed_of(n: u32) -> Owed
     ensures { result ≡ owed_of n }
 {

@@ -11,7 +11,7 @@ use book::format::*;
 use book::{SType, field};
 use session_levels::Level;
 
-// User type k.
+// User type k. It ends as the other declarations do, in two lines: a function for them would be no shorter.
 fn declare_type(
     book: &[u8],
     k: usize,

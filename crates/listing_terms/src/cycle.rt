@@ -142,7 +142,7 @@ fn put_quantifier(book: &[u8], t: usize, at: usize, out: &mut [u8]) -> Front
     Front::Before(n, field(book, TERMS, t, QUANTIFIER_BODY))
 }
 
-// RExprListToString of the terms in a range of lists, each below the limit.
+// RExprListToString of the terms in a range of lists, each below the limit. A loop of its own: a cycle through a closure gets no proof.
 #[cycle(terms)]
 fn rexpr_list_to_string(
     book: &[u8],

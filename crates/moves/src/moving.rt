@@ -18,7 +18,8 @@ use levels::Progress;
 use session_test::is_session;
 use solvers::{Answer, Called, NO_GOAL, Owed, Session};
 
-// The text on an empty slice: its length, and whether an axiom is missing.
+// The text on an empty slice: its length, and whether an axiom is missing. Beside asking.rt each part is a call of another function of
+// engine, with another contract: one function for both would take the calls apart again.
 fn measure(session: &Session, book: &[u8], node: u32) -> Progress
     requires { Mover book.now session.now node }
     ensures { Measured (move_commands (program book.now) session.now.node node) (state_at book.now node) result }

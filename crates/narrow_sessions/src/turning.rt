@@ -19,6 +19,7 @@ use solvers::{NarrowSession, Session};
 // A narrow session's node is at most this deep.
 const NARROW_DEPTH: usize = 64;
 
+// No From: both types are crate solvers'.
 fn wide_of(narrow: &NarrowSession) -> Session
     ensures { result ≡ wide_of narrow.now }
 {

@@ -12,6 +12,7 @@ use basics::put_at;
 use book::field;
 use book::format::*;
 
+// Four commands under the Dafny's names, a line each.
 pub fn push(at: usize, out: &mut [u8]) -> usize
     ensures { WroteAt (script (Push ∷ [])) at out.old out.new result }
 {
@@ -46,7 +47,7 @@ pub fn declare_sort(book: &[u8], k: usize, at: usize, out: &mut [u8]) -> usize
     put_at(b" 0)\n", name, out)
 }
 
-// Constant k.
+// Constant k. The declarations differ in what stands between their parts: a shared function would be longer than what it shares.
 pub fn declare_constant(book: &[u8], k: usize, at: usize, out: &mut [u8]) -> usize
     requires { Promise book.now × (k < size book.now constants) }
     ensures { WroteAt (script (DeclareConstant (constant_of book.now k) ∷ [])) at out.old out.new result }

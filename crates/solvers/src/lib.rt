@@ -25,7 +25,8 @@ pub struct Session {
     pub levels: [Level; LEVEL_COUNT],
 }
 
-// The narrow kind of a session, with one byte for each level: the two turns take and give it, and no other call.
+// The narrow kind of a session, with one byte for each level: the two turns take and give it, and no other call. A type of its own: the
+// theorems of specs/ (Narrow) name both records.
 #[derive(Clone, Copy)]
 pub struct NarrowSession {
     pub node: u32,

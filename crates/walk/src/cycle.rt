@@ -81,7 +81,7 @@ fn walk_term(
     }
 }
 
-// The terms in a range of lists, each below the limit.
+// The terms in a range of lists, each below the limit. A loop of its own: a cycle through a closure gets no proof.
 #[cycle(walk)]
 fn walk_terms(
     book: &[u8],
