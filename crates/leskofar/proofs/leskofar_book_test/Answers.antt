@@ -3,4 +3,4 @@ use Rattle.leskofar.specs.Exports.{refusal_of}
 use Rattle.leskofar.proofs.leskofar_book_test.Goals as goal
 
 pub returns : goal.returns
-returns c = (c.refusal.ensures ∙ ap refusal_of c.tested.ensures.0, c.tested.ensures.1)
+returns c = (c.refusal.ensures ∙ ap refusal_of c.book_test.ensures.0, c.book_test.ensures.1)
