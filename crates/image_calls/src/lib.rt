@@ -13,7 +13,7 @@ use moves::{ask_mut, move_mut};
 use replies::{model_mut, reply_mut};
 use solvers::{Answer, Session};
 
-// The four calls are three lines each: a closure over the call's buffers would be no shorter.
+// The four calls are four lines each: a closure over the call's buffers would be no shorter.
 pub fn move_image(
     book: &[u8],
     scratch: &mut [u8],

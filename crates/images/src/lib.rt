@@ -144,7 +144,7 @@ pub fn put_head(kind: u32, head: Head, image: &mut [u8]) -> usize
     put_word(head.owed as usize, owed_at, image)
 }
 
-// Writes the levels behind the head, the low byte of each first. By index: of what `chunks_exact_mut` lends a proof knows only the length.
+// Writes the levels behind the head, the low byte of each first. By index: each level has two places of its own in the image.
 fn put_levels(levels: &[Level], image: &mut [u8])
     requires { (length levels.now ≡ level_count) × (length image.old ≡ image_size) }
     ensures { image.new ≡ take head_size image.old ++ level_bytes levels.now }
