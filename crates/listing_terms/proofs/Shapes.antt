@@ -1,15 +1,24 @@
 -- The text of a term of each kind.
 use Prim.Native.Nat.{ℕ, ◌<◌, ◌≤◌}
+use mathlib.Core.Logic.{◌⊎◌, inl, inr}
 use native.Mathlib.Omega.{arith}
 use mathlib.Core.Path.{◌≡◌, ◌∙◌}
 use mathlib.Core.List.{◌++◌, append_assoc}
 use Rattle.basics.specs.Text.{Text}
 use Rattle.book.specs.Book.{Book, constants, terms, size, field, name_text}
+use Rattle.book.specs.Kinds.{number_of}
+use Rattle.book.specs.declared.kind.Kind.{Kind}
+use Rattle.book.specs.declared.kind.Kind.TheVariants.{BuiltIn, Application}
 use Rattle.book.specs.Decode.{kind_of, constant_of, function_of, literal_of, term_by, term}
 use Rattle.book_test.specs.Promise.{Promise, Range}
 use Rattle.book_test.proofs.TermKinds.{each_kind, known, shape, good_built_in, good_application}
 use Rattle.rsolver.specs.Listing.{roperator_to_string, bound_var_to_string, custom_literal_to_string, rexpr_to_string, rexpr_list_to_string}
 use Rattle.listing_terms.specs.Texts.{boolean_text, integer_text, operator_text, universal, variables_text, terms_text, patterns_text, arguments_text, if_text, let_text, quantifier_text}
+
+-- the two kinds that apply something
+pub applied : {kind : Kind} {k : ℕ} → (kind ≡ BuiltIn) ⊎ (kind ≡ Application) → number_of kind ≡ k → (4 ≤ k) × (k ≤ 5)
+applied {kind} {k} (inl e) h = let m : 4 ≡ k = rw e at h in (omega (arith, m), omega (arith, m))
+applied {kind} {k} (inr e) h = let m : 5 ≡ k = rw e at h in (omega (arith, m), omega (arith, m))
 
 module _ {b : Book} (P : Promise b) {t : ℕ} (here : t < size b terms) {k : ℕ} (kind : k ≡ field b terms t 0) where
   is : term b t ≡ term_by b (kind_of k) (term b) t

@@ -61,8 +61,8 @@ fn put_front(book: &[u8], t: usize, at: usize, out: &mut [u8]) -> Front
             let v = field(book, TERMS, t, ID_CONSTANT);
             Front::Whole(put_at(named(book, CONSTANTS, v, CONSTANT_NAME), at, out))
         }
-        Kind::BuiltIn => put_application(book, t, at, out),
-        Kind::Application => put_application(book, t, at, out),
+        // One call of it: with two, each nested term costs more stack (docs/DECISIONS.md).
+        Kind::BuiltIn | Kind::Application => put_application(book, t, at, out),
         Kind::IfThenElse => put_if(book, t, at, out),
         Kind::LetExpr => put_let(book, t, at, out),
         Kind::QuantifierExpr => put_quantifier(book, t, at, out),

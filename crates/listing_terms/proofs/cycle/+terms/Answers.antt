@@ -1,11 +1,10 @@
-use Prim.Native.Nat.{◌-◌}
 use native.Mathlib.Omega.{arith}
 use mathlib.Core.Path.{◌≡◌, refl}
 use Rattle.basics.proofs.Places.{at_then, at_as, at_length}
 use Rattle.records.proofs.Readers.{reads_list, reads_term, reads_pattern, named_constant}
 use Rattle.listing_terms.proofs.Lists.{terms_none, terms_more, patterns_none, patterns_more, fewer}
 use Rattle.book_test.proofs.TermKinds.{good_literal, good_id, good_if, good_let, good_quantifier}
-use Rattle.listing_terms.proofs.Shapes.{good_arguments, of_boolean, of_integer, of_literal, of_id, of_application, of_if, of_let, of_quantifier}
+use Rattle.listing_terms.proofs.Shapes.{applied, good_arguments, of_boolean, of_integer, of_literal, of_id, of_application, of_if, of_let, of_quantifier}
 use Rattle.listing_terms.proofs.Fronts.{whole, before, fronted_as, fronted_then, no_arguments, some_arguments, if_is, let_is, quantifier_is, turning_start, turning_falls, turning_more, turning_done}
 use Rattle.listing_terms.proofs.cycle.+terms.Goals as goal
 
@@ -82,10 +81,9 @@ pub put_front-put_quantifier-requires : goal.put_front-put_quantifier-requires
 put_front-put_quantifier-requires t c = (omega (arith, c.decreases), (c.requires.0, c.requires.1, good_quantifier c.requires.0 c.requires.1 c.in-QuantifierExpr.ensures refl))
 
 pub put_front-put_application-requires : goal.put_front-put_application-requires
-put_front-put_application-requires t c = (omega (arith, c.decreases), (c.requires.0, c.requires.1, omega (arith, c.in-BuiltIn.ensures), omega (arith, c.in-BuiltIn.ensures)))
-
-pub put_front-put_application-requires-in-Application : goal.put_front-put_application-requires-in-Application
-put_front-put_application-requires-in-Application t c = (omega (arith, c.decreases), (c.requires.0, c.requires.1, omega (arith, c.in-Application.ensures), omega (arith, c.in-Application.ensures)))
+put_front-put_application-requires t c =
+    let n = applied c.in-BuiltIn.is c.kind_of.ensures in
+    (omega (arith, c.decreases), (c.requires.0, c.requires.1, n.0, n.1))
 
 pub put_front-returns-in-Boolean : goal.put_front-returns-in-Boolean
 put_front-returns-in-Boolean t c = whole _ _ (at_as (of_boolean c.requires.0 c.requires.1 c.in-Boolean.ensures refl) c.put_boolean.ensures)

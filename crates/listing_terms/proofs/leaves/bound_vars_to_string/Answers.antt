@@ -1,6 +1,5 @@
 use native.Mathlib.Omega.{arith}
 use Rattle.records.proofs.Readers.{reads_list}
-use Rattle.basics.proofs.Places.{at_length}
 use mathlib.Core.Path.{◌≡◌}
 use Rattle.listing_terms.proofs.Lists.{variables_none, variables_more}
 use Rattle.listing_terms.proofs.leaves.bound_vars_to_string.Goals as goal
