@@ -1,7 +1,7 @@
 // What every call does with what it appends: the new book is laid out in a buffer of its own and tested there, so that the caller's is not
 // touched before all is decided.
 ghost use Rattle.std.specs.Prelude.{◌≡◌, true, length};
-ghost use Rattle.book.specs.Book.{terms, contexts, size};
+ghost use Rattle.book.specs.Book.{size};
 ghost use Rattle.book_growth.specs.Growth.{grows_within, Whole, grown};
 ghost use Rattle.book_growth.specs.Parts.{addition_by};
 ghost use Rattle.book_layout.specs.Layout.{book_most};

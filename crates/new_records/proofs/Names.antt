@@ -1,7 +1,7 @@
 -- Where a text stands among the names of a book and the new ones behind them.
 use Rattle.std.specs.Prelude.{Some, None, if◌then◌else◌}
 use Rattle.std.specs.Prelude as code
-use Prim.Native.Nat.{ℕ, suc, ◌+◌, ◌≤◌, ◌<◌}
+use Prim.Native.Nat.{ℕ, suc, ◌+◌, ◌≤◌}
 use native.Mathlib.Omega.{arith}
 use denote.Bor.{Bor}
 use mathlib.Core.Path.{◌≡◌, refl, sym, ap, ◌∙◌}
@@ -138,6 +138,8 @@ module _ (b : Book) (P : Text) {first operator : Numbered} (w1 : IsNamed b P [] 
         equals = sym equals_is;
         trace = sym probe_is;
         low = omega (arith, w1.low);
+        probe_text = probe_texts ∙ append-nil (new_text first.new);
+        equals_text = equals_texts;
         texts = equals_texts ∙ sym (append-nil (new_text first.new ++ new_text operator.new));
         short = front_short;
       }
@@ -151,6 +153,8 @@ module _ (b : Book) (P : Text) {first operator : Numbered} (w1 : IsNamed b P [] 
         equals = sym equals_is;
         trace = rw equals_texts w3.number;
         low = omega (arith, w3.low, length-append (new_text first.new) (new_text operator.new), text_most first.new, text_most operator.new);
+        probe_text = probe_texts ∙ append-nil (new_text first.new);
+        equals_text = equals_texts;
         texts = rw equals_texts w3.texts;
         short = front_short;
       }

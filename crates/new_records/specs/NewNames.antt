@@ -8,7 +8,6 @@ use Rattle.basics.specs.Bytes.{rows}
 use Rattle.basics.specs.Text.{Text}
 use Rattle.book.specs.Book.{Book, names, size}
 use Rattle.name_search.specs.Names.{position, number_or, maybe}
-use Rattle.name_search.specs.Probe.{probe_most}
 use Rattle.new_records.specs.Drafts.{name_rows, all_letters}
 use Rattle.new_records.specs.Naming.{named, probe_named, equals_named, trace_named}
 use Rattle.new_records.specs.declared.naming.Numbered as named-code
@@ -57,6 +56,8 @@ pub record AreNamed (b : Book) (name : Text) (given : Option Text) (r : names-co
   pub equals : r.equals.number ≡ (equals_named b name).number
   pub trace : r.trace.number ≡ (trace_named b name given).number
   pub low : r.trace.number ≤ size b names + 2
+  pub probe_text : (probe_named b name).texts ≡ new_text r.probe.new
+  pub equals_text : (equals_named b name).texts ≡ new_text r.probe.new ++ new_text r.equals.new
   pub texts : (trace_named b name given).texts ≡ (new_text r.probe.new ++ new_text r.equals.new) ++ new_text r.trace.new
   pub short : length (all_letters (new_text r.probe.new ++ new_text r.equals.new)) ≤ suc (length name)
 

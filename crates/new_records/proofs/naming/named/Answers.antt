@@ -1,4 +1,3 @@
-use native.Mathlib.Omega.{arith}
 use Rattle.new_records.proofs.Names.{named_found, named_behind}
 use Rattle.new_records.proofs.naming.named.Goals as goal
 

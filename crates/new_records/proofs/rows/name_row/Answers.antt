@@ -1,6 +1,5 @@
 use mathlib.Core.Path.{ap, ◌∙◌}
 use mathlib.Core.List.{[], ◌∷◌}
-use lib.ListN.{length}
 use Rattle.basics.specs.Bytes.{row}
 use Rattle.new_records.specs.Drafts.{name_row}
 use Rattle.new_records.proofs.rows.name_row.Goals as goal
