@@ -5,7 +5,7 @@ use native.Mathlib.Numerals.{add-one}
 use mathlib.Core.Path.{◌≡◌, refl, sym, ap, ◌∙◌, subst}
 use mathlib.Core.Bool.{Bool, true, false}
 use mathlib.Core.List.{List, [], ◌∷◌}
-use lib.ListN.{length, drop}
+use lib.ListN.{length, take, drop}
 use lib.Seq.{drop-cons}
 use Rattle.basics.specs.Text.{Text, same}
 use Rattle.book.specs.Book.{Book}
@@ -22,7 +22,7 @@ use Rattle.live_lines.proofs.Living.{lives_none, lives_room}
 use Rattle.level_lines.specs.AsOften.{same_levels}
 use Rattle.level_lines.specs.LevelLines.{stack_of}
 use Rattle.level_lines.specs.Bytes.{total, stack_bytes}
-use Rattle.level_lines.proofs.Stacks.{lives_stack}
+use Rattle.level_lines.proofs.Stacks.{stack_front, lives_stack}
 use Rattle.level_lines.proofs.Bytes.{hear_bytes}
 use Rattle.question_lists.specs.Questions.{questions_of, question_at, stack_for}
 use Rattle.std.specs.Prelude.{Option, Some, None}
@@ -59,6 +59,11 @@ module _ (b : Book) (ns : List ℕ) (s : Text) (c : Comparable b ns s) where
     unfolding verdict_value checks_from agreeing verdict
     midway_done l = sym (m.decides ∙ rw (cut_behind s at l))
 
+    -- the step that the slice tells
+    pub midway_step : step_at b ns s (take n starts) (length (take n starts)) at k ≡ step_at b ns s starts n at k
+    unfolding step_at
+    midway_step = rw (stack_front s starts n m.lives.held)
+
     -- at a line
     module _ (h : at < length s) where
       next : Stepped s at m.stack
@@ -67,8 +72,8 @@ module _ (b : Book) (ns : List ℕ) (s : Text) (c : Comparable b ns s) where
       pub midway_ours : is_command (line_at s at) ≡ true
       midway_ours = next.command
 
-      pub midway_room : n < places
-      midway_room = lives_room m.lives (omega (arith, c.taken.short))
+      pub midway_room : length starts ≡ places → n < length starts
+      midway_room l = omega (arith, lives_room m.lives (omega (arith, c.taken.short)))
 
       -- the check-sats from here on, with this one in front
       check_here : same (line_at s at) CMD_CHECK_SAT ≡ true
@@ -87,14 +92,15 @@ module _ (b : Book) (ns : List ℕ) (s : Text) (c : Comparable b ns s) where
           ap (λ (l : List Stack). k + length l) (sym (check_here e)) ∙ m.count in
           omega (arith, l)
 
-      pub midway_before : Before b ns s starts n at k
+      -- of the first n starts, as a slice
+      pub midway_before : Before b ns s (take n starts) (length (take n starts)) at k
       unfolding line_end
       midway_before =
           record {
             promise = c.taken.promise;
             inside = c.taken.inside;
-            held = m.lives.held;
-            few = rw (lives_stack s starts m.lives) at m.bytes;
+            held = omega arith;
+            few = rw (stack_front s starts n m.lives.held) (rw (lives_stack s starts m.lives) at m.bytes);
             counted = omega (arith, m.few, c.taken.short);
             asked = λ e. (one_more e, omega (arith, check_length (line_at s at) e, next.inside, c.taken.short));
           }

@@ -6,9 +6,8 @@ ghost use Rattle.script_checks.specs.ScriptChecks.{checks};
 ghost use Rattle.audit.specs.Audit.{agreeing, verdict, verdict_value};
 ghost use Rattle.audit.specs.Comparable.{Comparable, Before, step_at};
 
-use arrayvec::ArrayVec;
 use command_lines::{CHECK_SAT, is_line, line_at};
-use live_lines::{Lines, hear_line};
+use live_lines::{Lines, hear_line, no_starts};
 use own_levels::is_question;
 use question_lists::question_at;
 
@@ -31,18 +30,19 @@ pub fn compare(book: &[u8], questions: &[u8], script: &[u8]) -> Option<usize>
     requires { Comparable book.now (numbers questions.now) script.now }
     ensures { verdict_value result ≡ verdict 1 (agreeing book.now (checks script.now) (questions_of (numbers questions.now))) }
 {
-    let mut starts = ArrayVec::new();
+    let mut starts = no_starts();
+    let mut n = 0;
     let mut at = 0;
     let mut agreed = 0;
     while at < script.len() {
         let lines = Lines {
             text: script,
-            starts: starts.as_slice(),
+            starts: &starts[..n],
         };
         let Some(next) = take_line(book, questions, lines, at, agreed) else {
             return Some(agreed + 1);
         };
-        hear_line(script, at, &mut starts);
+        n = hear_line(script, at, &mut starts, n);
         at += line_at(script, at).len() + 1;
         agreed = next;
     }

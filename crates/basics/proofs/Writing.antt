@@ -1,9 +1,10 @@
--- A text that is copied over the front of a buffer.
+-- A text that is written over the front of a buffer.
 use Prim.Native.Nat.{ℕ, zero, suc, ◌+◌, ◌<◌, ◌≤◌, min}
 use native.Mathlib.Omega.{arith}
-use mathlib.Core.Path.{◌≡◌, refl, ap}
+use native.Mathlib.Numerals.{add-one}
+use mathlib.Core.Path.{◌≡◌, refl, ap, ◌∙◌}
 use mathlib.Core.List.{List, [], ◌∷◌, ◌++◌}
-use lib.ListN.{length, take, drop, set, replicate, length-replicate}
+use lib.ListN.{length, take, drop, get_or, set, replicate, length-replicate}
 use Rattle.std.proofs.lemmas.List.{take-replicate}
 use Rattle.basics.specs.Text.{Text}
 use Rattle.basics.specs.Buffer.{overlay}
@@ -18,6 +19,37 @@ pub put_none : (b : ℕ) (o : List ℕ) → length o ≤ 0 → Wrote (b ∷ []) 
 unfolding overlay
 put_none b [] h = record { counted = refl; shown = refl }
 put_none b (x ∷ o) h = absurd (omega arith)
+
+-- o1 has the first i bytes of t
+abbrev pub Begun : Text → ℕ → (o o1 : List ℕ) → Type 0
+Begun t i o o1 = o1 ≡ overlay (take i t) o
+
+pub begun : (t : Text) (o : List ℕ) → Begun t 0 o o
+unfolding overlay
+begun t o = refl
+
+next : (t : Text) (o : List ℕ) (i : ℕ) → i < length t → i < length o → set (overlay (take i t) o) i (get_or t i 0) ≡ overlay (take (suc i) t) o
+unfolding overlay
+next [] o i h g = absurd (omega arith)
+next (x ∷ t) [] i h g = absurd (omega arith)
+next (x ∷ t) (y ∷ o) zero h g = refl
+next (x ∷ t) (y ∷ o) (suc i) h g = rw (next t o i (omega arith) (omega arith))
+
+pub begun_more : (t : Text) (o : List ℕ) {o1 : List ℕ} (i : ℕ) → Begun t i o o1 → i < length t → i < length o → Begun t (i + 1) o (set o1 i (get_or t i 0))
+begun_more t o i e h g = rw (add-one, e) (next t o i h g)
+
+-- what is behind the buffer's end is not written
+clipped : (t : Text) (o : List ℕ) (i : ℕ) → min (length t) (length o) ≤ i → overlay (take i t) o ≡ overlay t o
+unfolding overlay
+clipped [] o zero h = refl
+clipped [] o (suc i) h = refl
+clipped (x ∷ t) [] zero h = refl
+clipped (x ∷ t) [] (suc i) h = refl
+clipped (x ∷ t) (y ∷ o) zero h = absurd (omega arith)
+clipped (x ∷ t) (y ∷ o) (suc i) h = rw (clipped t o i (omega arith))
+
+pub begun_all : (t : Text) (o : List ℕ) {o1 : List ℕ} (i r : ℕ) → Begun t i o o1 → min (length t) (length o) ≤ i → r ≡ min (length t) MOST → Wrote t o o1 r
+begun_all t o i r e h c = record { counted = c; shown = e ∙ clipped t o i h }
 
 -- the front is the text's, what is behind stays
 over_front : (t : Text) (o : List ℕ) (k : ℕ) → k ≡ min (length t) (length o) → take k t ++ drop k o ≡ overlay t o

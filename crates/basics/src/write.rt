@@ -31,8 +31,9 @@ pub fn put(b: u8, out: &mut [u8]) -> usize
 pub fn put_all(text: &[u8], out: &mut [u8]) -> usize
     ensures { Wrote text.now out.old out.new result }
 {
-    let end = clip(text.len(), out.len());
-    out[..end].copy_from_slice(&text[..end]);
+    for i in 0..clip(text.len(), out.len()) {
+        out[i] = text[i];
+    }
     text.len()
 }
 

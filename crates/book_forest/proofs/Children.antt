@@ -7,6 +7,7 @@ use mathlib.Core.List.{[]}
 use Rattle.book.specs.Book.{Book, terms, lists, size, field}
 use Rattle.book.specs.Decode.{kind_of}
 use Rattle.book.specs.declared.kind.Kind.{Kind}
+use Rattle.book.specs.declared.kind.Kind.TheVariants.{Boolean, Integer, CustomLiteral, Id, BuiltIn, Application, IfThenElse, LetExpr, QuantifierExpr}
 use Rattle.book.specs.Kinds.{number_of, meant}
 use Rattle.book.proofs.KindNumbers.{kind_meant}
 use Rattle.book_forest.specs.Forest.{range_references, kind_references, term_references}
@@ -57,3 +58,15 @@ module _ (b : Book) (t : ℕ) where
 
   pub kindless : (k : ℕ) → k ≡ field b terms t 0 → 9 ≤ k → term_references b t ≡ []
   kindless k e l = no_children k e (λ f. omega arith) (λ f. omega arith) (λ f. omega arith) (λ f. omega arith) (λ f. omega arith)
+
+-- a kind without children has one of the first four numbers
+pub leaf_kind : (k : Kind) → (k ≡ BuiltIn → ⊥) → (k ≡ Application → ⊥) → (k ≡ IfThenElse → ⊥) → (k ≡ LetExpr → ⊥) → (k ≡ QuantifierExpr → ⊥) → number_of k < 4
+leaf_kind Boolean a b c d e = omega arith
+leaf_kind Integer a b c d e = omega arith
+leaf_kind CustomLiteral a b c d e = omega arith
+leaf_kind Id a b c d e = omega arith
+leaf_kind BuiltIn a b c d e = absurd (a refl)
+leaf_kind Application a b c d e = absurd (b refl)
+leaf_kind IfThenElse a b c d e = absurd (c refl)
+leaf_kind LetExpr a b c d e = absurd (d refl)
+leaf_kind QuantifierExpr a b c d e = absurd (e refl)

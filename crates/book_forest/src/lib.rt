@@ -134,17 +134,20 @@ fn mark_term(book: &[u8], scratch: &mut [u8], t: usize) -> bool
     let Ok(kind) = Kind::try_from(field(book, TERMS, t, KIND)) else {
         return true;
     };
-    match kind {
-        Kind::Boolean => true,
-        Kind::Integer => true,
-        Kind::CustomLiteral => true,
-        Kind::Id => true,
-        Kind::BuiltIn => mark_arguments(book, scratch, t),
-        Kind::Application => mark_arguments(book, scratch, t),
-        Kind::IfThenElse => mark_if(book, scratch, t),
-        Kind::LetExpr => mark_let(book, scratch, t),
-        Kind::QuantifierExpr => mark_quantifier(book, scratch, t),
+    // By comparisons, which pass by the kinds that refer to nothing: a match on all kinds is a jump that goes wrong where kinds are mixed.
+    if kind == Kind::BuiltIn || kind == Kind::Application {
+        return mark_arguments(book, scratch, t);
     }
+    if kind == Kind::IfThenElse {
+        return mark_if(book, scratch, t);
+    }
+    if kind == Kind::LetExpr {
+        return mark_let(book, scratch, t);
+    }
+    if kind == Kind::QuantifierExpr {
+        return mark_quantifier(book, scratch, t);
+    }
+    true
 }
 
 fn mark_terms(book: &[u8], scratch: &mut [u8]) -> bool

@@ -1,6 +1,7 @@
 -- What the code appends is what the definitions say, call by call.
 use Rattle.std.specs.Prelude.{Some, None, unwrap_or}
 use Rattle.std.specs.Prelude as code
+use Rattle.std.specs.Bool.{then_some}
 use denote.Bor.{Bor}
 use Prim.Native.Nat.{ℕ, zero, suc, ◌+◌, ◌*◌, ◌/◌, ◌≤◌}
 use native.Mathlib.Omega.{arith}
@@ -20,7 +21,8 @@ use Rattle.name_search.specs.Names.{maybe}
 use Rattle.new_records.proofs.Parts.{letters_append}
 use Rattle.new_records.specs.Drafts.{NewTerm, NewNode, new_constant, identifier, equality, new_node, range_start, name_row, name_rows, all_letters, constant_row, term_row, node_row, addition_from}
 use Rattle.new_records.specs.Naming.{named, equals, trace_named}
-use Rattle.new_records.specs.NewNames.{maybe_text, new_text, IsNamed, AreNamed, AreParts}
+use Rattle.new_records.specs.NewNames.{maybe_text, given_text, new_text, optional, IsNamed, AreNamed, AreParts}
+use Rattle.new_records.proofs.Names.{handed_on}
 use Rattle.new_records.specs.declared.naming.Numbered.{Numbered}
 use Rattle.new_records.specs.declared.naming.ProbeNames.{ProbeNames}
 use Rattle.new_records.specs.declared.naming.NameParts.{NameParts}
@@ -89,22 +91,23 @@ unfolding extend_draft rows
 bare b p t none = (refl, refl, refl)
 bare b p t (some trace) = (refl, refl, refl)
 
-pub extend_added : (b : Book) (p t : ℕ) (trace : Option Text) {k : ℕ} {N : Numbered} {P : NameParts} {x n r : List ℕ} → k ≡ size b letters → IsTraced b trace N
-    → AreParts k [] (new_text N.new) P → x ≡ all_letters (new_text N.new) → n ≡ P.rows.items → r ≡ row (p ∷ t ∷ N.number ∷ []) → addition x n [] [] r [] ≡ addition_of b (extend p t trace)
+pub extend_added : (b : Book) (p t : ℕ) (trace : Option Text) {k m : ℕ} {new : List Text} {P : NameParts} {x n r : List ℕ} → k ≡ size b letters → IsTraced b trace m new
+    → AreParts k [] new P → x ≡ all_letters new → n ≡ P.rows.items → r ≡ row (p ∷ t ∷ m ∷ []) → addition x n [] [] r [] ≡ addition_of b (extend p t trace)
 unfolding addition_of draft_of addition_from node_row
-extend_added b p t trace {k} {N} {P} ek h parts ex en er =
+extend_added b p t trace {k} {m} {P = P} ek h parts ex en er =
     let none = bare b p t trace in
     let texts = h.texts p t in
-    by_parts (ex ∙ ap all_letters texts) (en ∙ parts.rows ∙ ap rows (ap (name_rows k) texts ∙ ap (λ (m : ℕ). name_rows m (extend_draft b p t trace).texts) ek)) none.0 none.1
-    (one_row (p ∷ t ∷ N.number ∷ []) er ∙ ap (λ (ns : List NewNode). rows (map node_row ns)) (h.number p t)) none.2
+    by_parts (ex ∙ ap all_letters texts) (en ∙ parts.rows ∙ ap rows (ap (name_rows k) texts ∙ ap (λ (z : ℕ). name_rows z (extend_draft b p t trace).texts) ek)) none.0 none.1
+    (one_row (p ∷ t ∷ m ∷ []) er ∙ ap (λ (ns : List NewNode). rows (map node_row ns)) (h.number p t)) none.2
 
-pub traced_some : (b : Book) (T : Bor Text) {N : Numbered} → IsNamed b T.now [] N → IsTraced b (maybe_text (Some T)) (record { number = N.number + 1; new = N.new })
+pub traced_some : (b : Book) (T : Bor Text) {N : Numbered} {o : code.Option (Bor Text)} → IsNamed b T.now [] N → o ≡ then_some N.new T
+    → IsTraced b (maybe_text (Some T)) (N.number + 1) (new_text o)
 unfolding maybe extend_draft
-traced_some b T {N} h =
+traced_some b T {N} h eo =
     let e : N.number + 1 ≡ suc (named b T.now []).number = add-one N.number ∙ ap suc h.number in
-    record { number = λ p t. ap (λ (m : ℕ). new_node p t m ∷ []) e; texts = λ p t. sym h.texts }
+    record { number = λ p t. ap (λ (m : ℕ). new_node p t m ∷ []) e; texts = λ p t. handed_on N.new T eo ∙ sym h.texts }
 
-pub traced_none : (b : Book) → IsTraced b (maybe_text None) (record { number = 0; new = None })
+pub traced_none : (b : Book) → IsTraced b (maybe_text None) 0 (new_text None)
 unfolding maybe extend_draft
 traced_none b = record { number = λ p t. refl; texts = λ p t. refl }
 
@@ -114,14 +117,14 @@ unfolding equality_terms
 two_terms b v k n m en ek e = rw (← en, ← ek) e
 
 pub equated_added : (b : Book) (p v t k l m : ℕ) {N : Numbered} {P : NameParts} {terms' node entries x ls n : List ℕ} → k ≡ size b letters → l ≡ size b lists → m ≡ size b terms
-    → x ≡ equals → IsNamed b x [] N → AreParts k (new_text N.new) [] P → ls ≡ P.letters.items → n ≡ P.rows.items
+    → x ≡ equals → IsNamed b x [] N → AreParts k (optional N.new x) [] P → ls ≡ P.letters.items → n ≡ P.rows.items
     → terms' ≡ rows (map term_row (identifier v ∷ equality N.number l ∷ [])) → node ≡ row (p ∷ (m + 1) ∷ 0 ∷ []) → entries ≡ row (m ∷ t ∷ [])
     → addition (ls ++ []) n [] terms' node (entries ++ []) ≡ addition_of b (extend_with_equality p v t)
 unfolding addition_of draft_of equality_draft addition_from node_row rows
 equated_added b p v t k l m {N} {P} {terms'} {node} {entries} {x} {ls} ek el em ex hx parts ll nn et en ee =
     let h : IsNamed b equals [] N = rw ex at hx in
-    let all : new_text N.new ≡ (named b equals []).texts = sym h.texts in
-    let most : new_text N.new ++ [] ≡ (named b equals []).texts = append-nil (new_text N.new) ∙ all in
+    let all : optional N.new x ≡ (named b equals []).texts = rw ex (sym h.texts) in
+    let most : optional N.new x ++ [] ≡ (named b equals []).texts = append-nil (optional N.new x) ∙ all in
     by_parts (append-nil ls ∙ ll ∙ parts.letters ∙ ap all_letters all)
     (nn ∙ parts.rows ∙ ap rows (ap (name_rows k) most ∙ ap (λ (z : ℕ). name_rows z (named b equals []).texts) ek)) refl
     (two_terms b v l N.number (named b equals []).number h.number el et)
@@ -130,13 +133,14 @@ equated_added b p v t k l m {N} {P} {terms'} {node} {entries} {x} {ls} ek el em 
 
 -- Record and RecordTracePoint, with the probe's name
 pub probe_added : (b : Book) (probe : Text) (p typ k : ℕ) (t : Option ℕ) (trace : Option Text) {N : ProbeNames} {P : NameParts} {R : ProbeRows} {x ls n ts : List ℕ} → k ≡ size b letters
-    → AreNamed b probe trace N → AreParts k (new_text N.probe.new ++ new_text N.equals.new) (new_text N.trace.new) P → x ≡ all_letters (new_text N.trace.new)
+    → AreNamed b probe trace N → AreParts k (optional N.probe.new probe ++ optional N.equals.new equals) (optional N.trace.new (given_text trace)) P
+    → x ≡ all_letters (optional N.trace.new (given_text trace))
     → AreRows b N p typ t R → ls ≡ P.letters.items → n ≡ P.rows.items → ts ≡ R.terms.items → addition (ls ++ x) n R.constant ts R.node (R.entries ++ []) ≡ addition_from b (probe_draft_by b probe p t typ trace)
 unfolding addition_from probe_draft_by
 probe_added b probe p typ k t trace {N} {P} {R} {x} ek h parts ex rs ll nn tt' =
-    let before = new_text N.probe.new ++ new_text N.equals.new in
+    let before = optional N.probe.new probe ++ optional N.equals.new equals in
     let all = sym h.texts in
-    by_parts (ap (λ (l : List ℕ). l ++ x) (ll ∙ parts.letters) ∙ ap (λ (l : List ℕ). all_letters before ++ l) ex ∙ sym (letters_append before (new_text N.trace.new)) ∙ ap all_letters all)
+    by_parts (ap (λ (l : List ℕ). l ++ x) (ll ∙ parts.letters) ∙ ap (λ (l : List ℕ). all_letters before ++ l) ex ∙ sym (letters_append before (optional N.trace.new (given_text trace))) ∙ ap all_letters all)
     (nn ∙ parts.rows ∙ ap rows (ap (name_rows k) all ∙ ap (λ (z : ℕ). name_rows z (trace_named b probe trace).texts) ek))
     (rs.constant ∙ ap (λ (z : ℕ). rows (map constant_row (new_constant z typ ∷ []))) h.probe)
     (tt' ∙ rs.terms ∙ ap (λ (z : ℕ). rows (map term_row (probe_terms b z t))) h.equals)

@@ -14,12 +14,10 @@ use Rattle.book_test.specs.Promise.{Promise}
 use Rattle.book_growth.specs.Growth.{Addition, grown, grows_within}
 use Rattle.new_records.specs.Drafts.{NewTerm, new_term, true_term, new_node, new_constant, constant_row, term_row, node_row, addition_from}
 use Rattle.book_writer.specs.Growths.{Growth, extend_draft, entry_count, filled, addition_of, number_of, outside, handed_right, probe_terms, probe_lists, probe_equality, probe_draft_by}
-use Rattle.new_records.specs.NewNames.{new_text}
 use Rattle.book_writer.specs.Writing.{Grown, Answer, numbers, book_of, appended_value}
 use Rattle.book.specs.declared.Refusal.{Refusal}
 use Rattle.book.specs.declared.Refusal.TheVariants.{NotInBook}
 use Rattle.book.specs.Refusal.{number}
-use Rattle.new_records.specs.declared.naming.Numbered.{Numbered}
 use Rattle.new_records.specs.declared.naming.ProbeNames.{ProbeNames}
 use Rattle.book_writer.specs.declared.terms.TermFields as fields-code
 use Rattle.book_writer.specs.declared.probe_rows.ProbeRows as rows_code
@@ -94,9 +92,9 @@ listed_bytes true length = 4 * (length / 4)
 listed_bytes false length = 0
 
 -- ---- a node's trace
-pub record IsTraced (b : Book) (trace : Option Text) (r : Numbered) : Type 0 where
-  pub number : (p t : ℕ) → new_node p t r.number ∷ [] ≡ (extend_draft b p t trace).nodes
-  pub texts : (p t : ℕ) → new_text r.new ≡ (extend_draft b p t trace).texts
+pub record IsTraced (b : Book) (trace : Option Text) (field : ℕ) (new : List Text) : Type 0 where
+  pub number : (p t : ℕ) → new_node p t field ∷ [] ≡ (extend_draft b p t trace).nodes
+  pub texts : (p t : ℕ) → new ≡ (extend_draft b p t trace).texts
 
 -- ---- Record and RecordTracePoint; the second has no term
 -- with the probe's name

@@ -2,7 +2,7 @@
 ghost use Rattle.std.specs.Prelude.{◌≡◌, suc};
 ghost use Rattle.book.specs.Book.{contexts, size};
 ghost use Rattle.book_test.specs.Promise.{Promise};
-ghost use Rattle.new_records.specs.NewNames.{maybe_text};
+ghost use Rattle.new_records.specs.NewNames.{maybe_text, new_text};
 ghost use Rattle.book_writer.specs.Growths.{extend, extend_with_equality};
 ghost use Rattle.book_writer.specs.Writing.{lent, grow_call, Returned};
 ghost use Rattle.book_writer.specs.Coded.{IsTraced};
@@ -13,7 +13,7 @@ use book::format::{CONTEXTS, LETTERS, LISTS, TERMS};
 use book::{Refusal, count};
 use book_growth::{Additions, NOTHING};
 use book_test::book_test;
-use new_records::{Before, EQUALS, Numbered, ROW2, ROW3, equality, name_parts, named, row};
+use new_records::{Before, EQUALS, ROW2, ROW3, equality, name_parts, named, row};
 
 // The trace's field of a node without one; that of another is its name's number and one.
 const NO_TRACE: usize = 0;
@@ -33,22 +33,16 @@ pub fn next_node(book: &[u8]) -> u32
 }
 
 // The trace's field of a node, and the trace where it is to be appended.
-fn traced<'a>(book: &[u8], trace: Option<&'a [u8]>) -> Numbered<'a>
+fn traced<'a>(book: &[u8], trace: Option<&'a [u8]>) -> (usize, Option<&'a [u8]>)
     requires { Promise book.now }
-    ensures { IsTraced book.now (maybe_text trace.entry) result }
+    ensures { IsTraced book.now (maybe_text trace.entry) result.0 (new_text result.1) }
 {
     match trace {
         Some(trace) => {
             let name = named(book, trace, &NO_NAMES);
-            Numbered {
-                number: name.number + 1,
-                new: name.new,
-            }
+            (name.number + 1, name.new.then_some(trace))
         }
-        None => Numbered {
-            number: NO_TRACE,
-            new: None,
-        },
+        None => (NO_TRACE, None),
     }
 }
 
@@ -65,13 +59,13 @@ pub fn extend(
 {
     book_test(book, scratch)?;
     inside(book, parent, term)?;
-    let name = traced(book, trace);
-    let parts = name_parts(count(book, LETTERS), &NO_NAMES, name.new);
-    let contexts: [u8; ROW3] = row([parent as usize, term as usize, name.number]);
+    let (field, new) = traced(book, trace);
+    let parts = name_parts(count(book, LETTERS), &NO_NAMES, new);
+    let contexts: [u8; ROW3] = row([parent as usize, term as usize, field]);
     // The borrow checker does not cover NOTHING's rows beside two that are made here.
     let more = Additions {
         letters: b"",
-        text: name.new.unwrap_or(b""),
+        text: new.unwrap_or(b""),
         names: parts.rows.as_slice(),
         constants: b"",
         terms: b"",
@@ -97,7 +91,7 @@ pub fn extend_with_equality(
     let operator = named(book, EQUALS, &NO_NAMES);
     let before = Before {
         probe: None,
-        equals: operator.new,
+        equals: operator.new.then_some(EQUALS),
     };
     let parts = name_parts(count(book, LETTERS), &before, None);
     let terms = equality(constant as usize, operator.number, count(book, LISTS));

@@ -18,20 +18,20 @@ use book_growth::{Additions, NOTHING};
 use book_test::book_test;
 use contexts::path_of;
 use name_search::probe_name;
-use new_records::{Before, name_parts, probe_names};
+use new_records::{Before, EQUALS, name_parts, probe_names};
 
 // The type of a trace point's constant.
 const BOOL: u32 = 0;
 
 // With the probe's name.
-fn record_as<'a>(
+fn record_as(
     book: &[u8],
     scratch: &mut [u8],
-    probe: &'a [u8],
+    probe: &[u8],
     parent: u32,
     term: Option<u32>,
     typ: u32,
-    trace: Option<&'a [u8]>,
+    trace: Option<&[u8]>,
     out: &mut [u8],
 ) -> Result<Appended, Refusal>
     requires { Ready book.now scratch.old × (length probe.now ≤ probe_most) }
@@ -39,14 +39,15 @@ fn record_as<'a>(
 {
     let names = probe_names(book, probe, trace);
     let before = Before {
-        probe: names.probe.new,
-        equals: names.equals.new,
+        probe: names.probe.new.then_some(probe),
+        equals: names.equals.new.then_some(EQUALS),
     };
-    let parts = name_parts(count(book, LETTERS), &before, names.trace.new);
+    let new = if names.trace.new { trace } else { None };
+    let parts = name_parts(count(book, LETTERS), &before, new);
     let rows = probe_rows(book, &names, parent, typ, term);
     let more = Additions {
         letters: parts.letters.as_slice(),
-        text: names.trace.new.unwrap_or(b""),
+        text: new.unwrap_or(b""),
         names: parts.rows.as_slice(),
         constants: &rows.constant,
         terms: rows.terms.as_slice(),

@@ -5,4 +5,4 @@ mod lines;
 mod parentheses;
 
 pub use kinds::{CHECK_SAT, LineKind, PUSH, line_kind};
-pub use lines::{is_line, line_at};
+pub use lines::{is_line, line_at, same_line};

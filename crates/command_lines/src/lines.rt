@@ -43,6 +43,13 @@ pub fn is_line(text: &[u8], at: usize, line: &[u8]) -> bool
     }
 }
 
+// The line at i of one text is the line at j of another.
+pub fn same_line(a: &[u8], i: usize, b: &[u8], j: usize) -> bool
+    ensures { result ≡ same (line_at a.now i) (line_at b.now j) }
+{
+    is_line(a, i, line_at(b, j))
+}
+
 // A line starts with these bytes.
 pub fn starts_with(line: &[u8], head: &[u8]) -> bool
     ensures { result ≡ starts_with head.now line.now }

@@ -21,6 +21,13 @@ pub bit_of : (set : List ℕ) (v : ℕ) → has_bit (get_or set (v / 8) 0) (v % 
 unfolding is_excluded has_number
 bit_of set v = refl
 
+pub joined_old : {s : List ℕ} {v : ℕ} → length s ≡ set_size → is_excluded s v ≡ true → Joined s s v
+joined_old {s} {v} l e = record { long = l; joins = λ w h. at w (eqb w v) refl }
+  where
+    at : (w : ℕ) (t : Bool) → eqb w v ≡ t → is_excluded s w ≡ (t || is_excluded s w)
+    at w true q = ap (is_excluded s) (eqb-true w v q) ∙ e
+    at w false q = refl
+
 pub joined_new : (s : List ℕ) (v : ℕ) {y : ℕ} → y ≡ with_bit (get_or s (v / 8) 0) (v % 8) → length s ≡ set_size → v < constants.most → Joined s (set s (v / 8) y) v
 unfolding is_excluded with_number
 joined_new s v is long small = rw is (record { long = length_with s v ∙ long; joins = λ w h. at w (eqb w v) refl })

@@ -10,7 +10,7 @@ use book::field;
 use book::format::*;
 
 // The set's bytes, of eight bits each.
-const SIZE: usize = CONSTANTS_MOST / BITS;
+pub const SIZE: usize = CONSTANTS_MOST / BITS;
 
 // A set of constants, by their numbers: a bit for each.
 #[derive(Clone, Copy)]

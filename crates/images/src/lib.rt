@@ -15,11 +15,11 @@ use solvers::{NO_GOAL, Owed, Session};
 // The words of an image, and what stands behind them.
 const KIND_AT: usize = 0;
 
-const NODE_AT: usize = 4;
+pub const NODE_AT: usize = 4;
 
-const GOAL_AT: usize = 8;
+pub const GOAL_AT: usize = 8;
 
-const OWED_AT: usize = 12;
+pub const OWED_AT: usize = 12;
 
 pub const LEVELS_AT: usize = 16;
 
@@ -47,7 +47,7 @@ pub struct Head {
     pub owed: Owed,
 }
 
-fn word(image: &[u8], at: usize) -> u32
+pub fn word(image: &[u8], at: usize) -> u32
     requires { at + 4 ≤ length image.now }
     ensures { result ≡ word image.now at }
 {
@@ -55,7 +55,7 @@ fn word(image: &[u8], at: usize) -> u32
 }
 
 // Total, and no TryFrom: `is_kind` has tested the number with the rest of the head.
-fn owed_of(n: u32) -> Owed
+pub fn owed_of(n: u32) -> Owed
     ensures { result ≡ owed_of n }
 {
     match n {
@@ -66,7 +66,7 @@ fn owed_of(n: u32) -> Owed
 }
 
 // Bytes of this kind and size, with a known number for what is owed.
-fn is_kind(image: &[u8], kind: u32, size: usize) -> bool
+pub fn is_kind(image: &[u8], kind: u32, size: usize) -> bool
     requires { head_size ≤ size }
     ensures { result ≡ is_kind kind size image.now }
 {
@@ -88,7 +88,7 @@ pub fn read_head(image: &[u8], kind: u32, size: usize) -> Option<Head>
     })
 }
 
-fn no_session() -> Session
+pub fn no_session() -> Session
     ensures { result ≡ no_session }
 {
     Session {

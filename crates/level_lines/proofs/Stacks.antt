@@ -5,8 +5,9 @@ use native.Mathlib.Decide.{dec_lt}
 use mathlib.Core.Path.{◌≡◌, refl, sym, ap, ◌∙◌}
 use mathlib.Core.Bool.{Bool, true, false}
 use mathlib.Core.List.{List, [], ◌∷◌, ◌++◌}
-use lib.ListN.{length, get_or, take}
+use lib.ListN.{length, get_or, take, length-take}
 use lib.Seq.{take-suc}
+use Rattle.std.proofs.lemmas.List.{get_or-take}
 use Rattle.basics.specs.Text.{Text}
 use Rattle.basics.specs.Lists.{all}
 use Rattle.basics.proofs.Bool.{and_both}
@@ -24,6 +25,17 @@ module _ (s : Text) (starts : List ℕ) where
     flat : has_push s starts n ≡ false → stack_of s starts n ≡ first (lines_in s starts 0 n) → (last_push s starts n < n → push_at s starts (last_push s starts n) ≡ false) → View n
     tall : has_push s starts n ≡ true → stack_of s starts n ≡ over (lines_in s starts (suc (last_push s starts n)) n) (stack_of s starts (last_push s starts n))
         → last_push s starts n < n → push_at s starts (last_push s starts n) ≡ true → View n
+
+  -- the first m alone leave what the first m of more leave
+  stack_below : (m k : ℕ) → k ≤ m → stack_of s (take m starts) k ≡ stack_of s starts k
+  unfolding stack_of
+  stack_below m zero h = refl
+  stack_below m (suc k) h = rw (get_or-take m starts k 0 (omega arith), stack_below m k (omega arith))
+
+  pub stack_front : (n : ℕ) → n ≤ length starts → stack_of s (take n starts) (length (take n starts)) ≡ stack_of s starts n
+  stack_front n h =
+      let l : length (take n starts) ≡ n = omega (arith, length-take n starts) in
+      ap (stack_of s (take n starts)) l ∙ stack_below n n (omega arith)
 
   last-push : (k : ℕ) → push_at s starts k ≡ true → last_push s starts (suc k) ≡ k
   unfolding last_push

@@ -1,6 +1,7 @@
 // The levels: one for each record, 0 for not declared.
 ghost use Rattle.std.specs.Prelude.{◌≡◌, ◌<◌, length};
 ghost use Rattle.rsolver.specs.LevelState.{join_at, count};
+ghost use Rattle.levels.specs.Marks.{declared};
 
 use session_levels::Level;
 
@@ -14,9 +15,21 @@ pub fn mark(k: usize, level: Level, levels: &mut [Level])
     }
 }
 
-// How many records are declared.
+// 1 for a level, 0 for none.
+fn declared(level: Level) -> usize
+    ensures { result ≡ declared level }
+{
+    if level == 0 { 0 } else { 1 }
+}
+
+// How many records are declared. Summed without a branch: of `filter` and `count` the compiler makes a test of one level after the other,
+// and a call counts several times.
 pub fn declared_count(levels: &[Level]) -> usize
     ensures { result ≡ count levels.now }
 {
-    levels.iter().filter(|level| **level != 0).count()
+    let mut n = 0;
+    for level in levels {
+        n += declared(*level);
+    }
+    n
 }

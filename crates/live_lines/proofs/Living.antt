@@ -4,8 +4,8 @@ use native.Mathlib.Omega.{arith}
 use mathlib.Core.Path.{◌≡◌, refl, sym, ap, ◌∙◌}
 use mathlib.Core.Bool.{Bool, true, false, ◌&&◌, true≢false, false≢true}
 use mathlib.Core.List.{List, [], ◌∷◌, ◌++◌}
-use lib.ListN.{length, length-append, length-take, take}
-use lib.Seq.{take-length}
+use lib.ListN.{length, take, set, length-set}
+use lib.Seq.{take-suc-set}
 use Rattle.basics.specs.Text.{Text, same}
 use Rattle.basics.specs.Lists.{all}
 use Rattle.basics.proofs.Bool.{and_assoc, and-true}
@@ -79,22 +79,20 @@ live_length x o h = at (line_kind x) refl
     at LineKind.Foreign e = absurd (true≢false (sym o ∙ is-ours x ∙ ap is_ours e))
 
 -- ---- one live line more
-module _ (s : Text) (starts : List ℕ) (at : ℕ) where
-  pub lives_more : is_live (line_at s at) ≡ true → least_line ≤ suc (length (line_at s at)) → (st su : Stack) → Lives s starts (length starts) at st → hear (live st) (line_at s at) ≡ live su
-      → Lives s (starts ++ (at ∷ [])) (length (starts ++ (at ∷ []))) (suc (line_end s at)) su
+module _ (s : Text) (starts : List ℕ) (n at : ℕ) where
+  pub lives_more : n < length starts → is_live (line_at s at) ≡ true → least_line ≤ suc (length (line_at s at)) → (st su : Stack) → Lives s starts n at st → hear (live st) (line_at s at) ≡ live su
+      → Lives s (set starts n at) (suc n) (suc (line_end s at)) su
   unfolding line_end
-  lives_more h long st su l e =
-      let later = starts ++ (at ∷ []) in
-      let named : lines_at s (take (length later) later) ≡ lines_at s (take (length starts) starts) ++ (line_at s at ∷ []) =
-      ap (lines_at s) (take-length later) ∙ lines_snoc s starts at ∙ ap (λ (x : List ℕ). lines_at s x ++ (line_at s at ∷ [])) (sym (take-length starts)) in
+  lives_more room h long st su l e =
+      let named : lines_at s (take (suc n) (set starts n at)) ≡ lines_at s (take n starts) ++ (line_at s at ∷ []) =
+      ap (lines_at s) (take-suc-set starts n at room) ∙ lines_snoc s (take n starts) at in
       record {
-        heard = rw (named, hear_snoc (live (first [])) (lines_at s (take (length starts) starts)) (line_at s at), l.heard) e;
-        lines = rw (named, all_snoc (lines_at s (take (length starts) starts)) (line_at s at), l.lines) h;
-        held = omega arith;
-        few = omega (arith, l.few, long, length-append starts (at ∷ []));
+        heard = rw (named, hear_snoc (live (first [])) (lines_at s (take n starts)) (line_at s at), l.heard) e;
+        lines = rw (named, all_snoc (lines_at s (take n starts)) (line_at s at), l.lines) h;
+        held = omega (arith, length-set starts n at);
+        few = omega (arith, l.few, long);
       }
 
-module _ (s : Text) (starts : List ℕ) (n at : ℕ) where
   -- a question changes nothing
   pub lives_same : (k : LineKind) → line_kind (line_at s at) ≡ k → heard_as k ≡ asks → (st su : Stack) → Lives s starts n at st → hear (live st) (line_at s at) ≡ live su
       → Lives s starts n (suc (line_end s at)) su
@@ -102,17 +100,6 @@ module _ (s : Text) (starts : List ℕ) (n at : ℕ) where
   lives_same k q a st su l e =
       let same_stack : live st ≡ live su = rw (heard-as (line_at s at) ∙ ap heard_as q ∙ a) at e in
       record { heard = l.heard ∙ same_stack; lines = l.lines; held = l.held; few = omega (arith, l.few) }
-
--- the starts behind those may go
-pub lives_taken : {s : Text} {starts : List ℕ} {at : ℕ} {st : Stack} (m : ℕ) → Lives s starts m at st → Lives s (take m starts) (length (take m starts)) at st
-lives_taken {s} {starts} m l =
-    let q : take (length (take m starts)) (take m starts) ≡ take m starts = take-length (take m starts) in
-    record {
-      heard = rw q l.heard;
-      lines = rw q l.lines;
-      held = omega arith;
-      few = omega (arith, l.few, l.held, length-take m starts);
-    }
 
 -- nothing is read, nothing lives
 pub lives_none : (s : Text) (starts : List ℕ) → Lives s starts 0 0 (first [])

@@ -5,8 +5,9 @@ use native.Mathlib.Omega.{arith}
 use mathlib.Core.Path.{◌≡◌, refl, sym, ap, ◌∙◌}
 use mathlib.Core.Bool.{Bool, true, false}
 use mathlib.Core.List.{List, [], ◌∷◌, ◌++◌, map}
-use lib.ListN.{length, get_or, take}
+use lib.ListN.{length, get_or, take, length-take}
 use lib.Seq.{take-suc}
+use Rattle.std.proofs.lemmas.List.{get_or-take}
 use Rattle.basics.specs.Text.{Text, same}
 use Rattle.basics.specs.Lists.{all}
 use Rattle.basics.proofs.Bool.{and_both, both_and}
@@ -92,6 +93,17 @@ module _ (s : Text) (starts : List ℕ) where
           → (if x then k else last_push s starts k) ≡ unwrap_or (if x then Some k else push_place s starts k) 0
       at true e = refl
       at false e = e
+
+  -- among the first m
+  place_below : (m k : ℕ) → k ≤ m → push_place s (take m starts) k ≡ push_place s starts k
+  unfolding push_place
+  place_below m zero h = refl
+  place_below m (suc k) h = rw (get_or-take m starts k 0 (omega arith), place_below m k (omega arith))
+
+  pub place_front : (n : ℕ) → n ≤ length starts → push_place s (take n starts) (length (take n starts)) ≡ push_place s starts n
+  place_front n h =
+      let l : length (take n starts) ≡ n = omega (arith, length-take n starts) in
+      ap (push_place s (take n starts)) l ∙ place_below n n (omega arith)
 
   -- the line before the first n
   module _ {n a : ℕ} {r : Bool} (h : 0 < n) (e : a ≡ get_or starts (n - 1) 0) (q : r ≡ same (line_at s a) CMD_PUSH) where

@@ -15,11 +15,11 @@ use book::count;
 use book::format::NAMES;
 use name_search::{PROBE_MOST, filled, find_name};
 
-// A name's number, and its text where it is to be appended.
+// A name's number, and whether it is to be appended.
 #[derive(Clone, Copy)]
-pub struct Numbered<'a> {
+pub struct Numbered {
     pub number: usize,
-    pub new: Option<&'a [u8]>,
+    pub new: bool,
 }
 
 // The texts that a call appends before another: the probe's name and `=`, where they are new.
@@ -31,10 +31,10 @@ pub struct Before<'a> {
 
 // The names of Record and RecordTracePoint.
 #[derive(Clone, Copy)]
-pub struct ProbeNames<'a> {
-    pub probe: Numbered<'a>,
-    pub equals: Numbered<'a>,
-    pub trace: Numbered<'a>,
+pub struct ProbeNames {
+    pub probe: Numbered,
+    pub equals: Numbered,
+    pub trace: Numbered,
 }
 
 // Of new names: the letters of the probe's and `=`, and a row for each. The trace's letters are not copied.
@@ -70,36 +70,36 @@ fn stands(new: Option<&[u8]>, text: &[u8]) -> bool
 }
 
 // Of a text that the book's names, so many, don't have.
-fn new_name<'a>(all: usize, text: &'a [u8], before: &Before) -> Numbered<'a>
+fn new_name(all: usize, text: &[u8], before: &Before) -> Numbered
     requires { all ≤ names.most }
     ensures { IsBehind all text.now (new_before before.now) result }
 {
     if stands(before.probe, text) {
         return Numbered {
             number: all,
-            new: None,
+            new: false,
         };
     }
     let second = all + counted(before.probe);
     if stands(before.equals, text) {
         return Numbered {
             number: second,
-            new: None,
+            new: false,
         };
     }
     Numbered {
         number: second + counted(before.equals),
-        new: Some(text),
+        new: true,
     }
 }
 
 // The first name with a text, among those of the book and the new ones before; or a new one.
-pub fn named<'a>(book: &[u8], text: &'a [u8], before: &Before) -> Numbered<'a>
+pub fn named(book: &[u8], text: &[u8], before: &Before) -> Numbered
     requires { Promise book.now }
     ensures { IsNamed book.now text.now (new_before before.now) result }
 {
     match find_name(book, text) {
-        Some(number) => Numbered { number, new: None },
+        Some(number) => Numbered { number, new: false },
         None => new_name(count(book, NAMES), text, before),
     }
 }
@@ -145,7 +145,7 @@ pub fn name_parts(behind: usize, before: &Before, text: Option<&[u8]>) -> NamePa
 }
 
 // The names of Record and RecordTracePoint. Where no trace is given, the probe's name is the trace.
-pub fn probe_names<'a>(book: &[u8], name: &'a [u8], trace: Option<&'a [u8]>) -> ProbeNames<'a>
+pub fn probe_names(book: &[u8], name: &[u8], trace: Option<&[u8]>) -> ProbeNames
     requires { Promise book.now }
     ensures { AreNamed book.now name.now (maybe_text trace.entry) result }
 {
@@ -154,14 +154,14 @@ pub fn probe_names<'a>(book: &[u8], name: &'a [u8], trace: Option<&'a [u8]>) -> 
         equals: None,
     };
     let probe = named(book, name, &before);
-    before.probe = probe.new;
+    before.probe = probe.new.then_some(name);
     let equals = named(book, EQUALS, &before);
-    before.equals = equals.new;
+    before.equals = equals.new.then_some(EQUALS);
     let trace = match trace {
         Some(trace) => named(book, trace, &before),
         None => Numbered {
             number: probe.number,
-            new: None,
+            new: false,
         },
     };
     ProbeNames {

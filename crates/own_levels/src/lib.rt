@@ -4,16 +4,15 @@ ghost use Rattle.std.specs.Prelude.{◌≡◌, length};
 ghost use Rattle.smt_engines.specs.Reader.{Stack, live, read};
 ghost use Rattle.solvers.specs.declared.Owed.TheVariants.{Reply};
 ghost use Rattle.solvers.specs.Rule.{present, must_live};
-ghost use Rattle.live_lines.specs.LiveLines.{script_most};
+ghost use Rattle.live_lines.specs.LiveLines.{script_most, places};
 ghost use Rattle.level_lines.specs.AsOften.{same_levels};
 ghost use Rattle.level_lines.specs.LevelLines.{stack_of};
 ghost use Rattle.own_levels.specs.OwnLevels.{Compared, OwnText, Started};
 
-use arrayvec::ArrayVec;
 use command_lines::line_at;
 use engine::{ROOT, question};
 use level_lines::same_levels;
-use live_lines::{Lines, PLACES, SCRIPT_MOST};
+use live_lines::{Lines, SCRIPT_MOST, join_line, no_starts};
 use question_lists::Question;
 use session_levels::blank;
 
@@ -28,17 +27,17 @@ fn blank_text() -> [u8; SCRIPT_MOST]
 }
 
 // Where each line of our text starts.
-fn own_starts(own: &[u8]) -> ArrayVec<u16, PLACES>
-    requires { OwnText own.now }
-    ensures { Started own.now result.items (length result.items) }
+fn own_starts(own: &[u8], starts: &mut [u16]) -> usize
+    requires { OwnText own.now × (length starts.old ≡ places) }
+    ensures { Started own.now starts.new result }
 {
-    let mut starts = ArrayVec::new();
+    let mut n = 0;
     let mut at = 0;
     while at < own.len() {
-        starts.push(at as u16);
+        n = join_line(starts, n, at);
         at += line_at(own, at).len() + 1;
     }
-    starts
+    n
 }
 
 // The live lines leave the levels of our text.
@@ -46,10 +45,11 @@ fn same_text(lines: Lines, own: &[u8]) -> bool
     requires { OwnText own.now }
     ensures { (su : Stack) → read own.now ≡ live su → result ≡ same_levels (stack_of lines.entry.text.now lines.entry.starts.now (length lines.entry.starts.now)) su }
 {
-    let starts = own_starts(own);
+    let mut starts = no_starts();
+    let n = own_starts(own, &mut starts);
     let ours = Lines {
         text: own,
-        starts: starts.as_slice(),
+        starts: &starts[..n],
     };
     same_levels(lines, ours)
 }

@@ -1,2 +1,3 @@
 mod OperatorCalls
+mod OperatorTable
 mod PrintCalls

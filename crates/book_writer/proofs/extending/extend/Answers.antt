@@ -25,8 +25,8 @@ returns-in_err-inside c =
     let o = is_outside _ c.in_err-inside.ensures in
     call_outside _ _ _ _ c.in_ok-book_test.ensures o.0 (let e : c.from_residual-in_err-inside.result ≡ Err c.in_err-inside.field-0.0 = search rules in e ∙ ap Err o.1)
 
-pub traced-name-requires : goal.traced-name-requires
-traced-name-requires c = (ready_for _ _ c.in_ok-book_test.ensures).promise
+pub traced-field-requires : goal.traced-field-requires
+traced-field-requires c = (ready_for _ _ c.in_ok-book_test.ensures).promise
 
 pub count-requires : goal.count-requires
 count-requires c = (omega arith, omega (arith, (ready_for _ _ c.in_ok-book_test.ensures).promise.letters_laid.contents))
@@ -38,8 +38,8 @@ pub next_node-requires : goal.next_node-requires
 next_node-requires c = (ready_for _ _ c.in_ok-book_test.ensures).promise
 
 pub append-requires : goal.append-requires
-append-requires c = (ready_for _ _ c.in_ok-book_test.ensures, whole_as c.args.book.now (extend c.args.parent c.args.term (maybe_text c.args.trace)) (extend_added _ _ _ _ c.count.ensures.is c.traced-name.ensures c.name_parts-parts.ensures (ap (λ (t : Bor Text). t.now) c.unwrap_or.ensures ∙ text_now c.traced-name.result.new _ refl) c.as_slice.ensures.value c.row-contexts.ensures))
+append-requires c = (ready_for _ _ c.in_ok-book_test.ensures, whole_as c.args.book.now (extend c.args.parent c.args.term (maybe_text c.args.trace)) (extend_added _ _ _ _ c.count.ensures.is c.traced-field.ensures c.name_parts-parts.ensures (ap (λ (t : Bor Text). t.now) c.unwrap_or.ensures ∙ text_now c.traced-field.result.1 _ refl) c.as_slice.ensures.value c.row-contexts.ensures))
 
 pub returns : goal.returns
 unfolding outside grow_below handed_right number_of
-returns c = call_good _ _ (extend c.args.parent c.args.term (maybe_text c.args.trace)) _ c.in_ok-book_test.ensures (is_inside _ c.in_ok-inside.ensures) (append_as _ _ _ (extend_added _ _ _ _ c.count.ensures.is c.traced-name.ensures c.name_parts-parts.ensures (ap (λ (t : Bor Text). t.now) c.unwrap_or.ensures ∙ text_now c.traced-name.result.new _ refl) c.as_slice.ensures.value c.row-contexts.ensures) c.next_node.ensures c.append.ensures)
+returns c = call_good _ _ (extend c.args.parent c.args.term (maybe_text c.args.trace)) _ c.in_ok-book_test.ensures (is_inside _ c.in_ok-inside.ensures) (append_as _ _ _ (extend_added _ _ _ _ c.count.ensures.is c.traced-field.ensures c.name_parts-parts.ensures (ap (λ (t : Bor Text). t.now) c.unwrap_or.ensures ∙ text_now c.traced-field.result.1 _ refl) c.as_slice.ensures.value c.row-contexts.ensures) c.next_node.ensures c.append.ensures)

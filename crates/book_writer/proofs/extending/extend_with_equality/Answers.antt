@@ -6,6 +6,7 @@ use Rattle.book_writer.specs.Growths.{outside, handed_right, number_of}
 use Rattle.book_writer.specs.Coded.{grow_below}
 use Rattle.book_writer.proofs.Calls.{ready_for, call_refused, call_outside, call_good, is_outside, is_inside}
 use Rattle.new_records.specs.Naming.{equals}
+use Rattle.new_records.proofs.Names.{handed_on}
 use Rattle.book_writer.specs.Growths.{extend_with_equality}
 use Rattle.book_writer.proofs.Additions.{whole_as, append_as, equated_added}
 use Rattle.book_writer.proofs.extending.extend_with_equality.Goals as goal
@@ -29,7 +30,8 @@ pub count-requires : goal.count-requires
 count-requires c = (omega arith, omega (arith, (ready_for _ _ c.in_ok-book_test.ensures).promise.letters_laid.contents))
 
 pub name_parts-parts-requires : goal.name_parts-parts-requires
-name_parts-parts-requires c = (omega (arith, c.count.ensures.is, (ready_for _ _ c.in_ok-book_test.ensures).promise.letters_laid.few), omega (arith, c.named-operator.ensures.short))
+unfolding equals
+name_parts-parts-requires c = (omega (arith, c.count.ensures.is, (ready_for _ _ c.in_ok-book_test.ensures).promise.letters_laid.few), rw (handed_on _ _ c.then_some.ensures) (omega (arith, c.named-operator.ensures.short)))
 
 pub count-requires-2 : goal.count-requires-2
 count-requires-2 c = (omega arith, omega (arith, (ready_for _ _ c.in_ok-book_test.ensures).promise.lists_laid.contents))
@@ -42,8 +44,8 @@ next_node-requires c = (ready_for _ _ c.in_ok-book_test.ensures).promise
 
 pub append-requires : goal.append-requires
 unfolding equals
-append-requires c = (ready_for _ _ c.in_ok-book_test.ensures, whole_as c.args.book.now (extend_with_equality c.args.parent c.args.constant c.args.term) (equated_added _ _ _ _ _ _ _ c.count.ensures.is c.count-2.ensures.is c.count-id.ensures.is refl c.named-operator.ensures c.name_parts-parts.ensures c.as_slice.ensures.value c.as_slice-2.ensures.value c.equality-terms.ensures c.row-contexts.ensures c.row-entries.ensures))
+append-requires c = (ready_for _ _ c.in_ok-book_test.ensures, whole_as c.args.book.now (extend_with_equality c.args.parent c.args.constant c.args.term) (equated_added _ _ _ _ _ _ _ c.count.ensures.is c.count-2.ensures.is c.count-id.ensures.is refl c.named-operator.ensures (rw (handed_on _ _ c.then_some.ensures) at c.name_parts-parts.ensures) c.as_slice.ensures.value c.as_slice-2.ensures.value c.equality-terms.ensures c.row-contexts.ensures c.row-entries.ensures))
 
 pub returns : goal.returns
 unfolding outside grow_below handed_right number_of equals
-returns c = call_good _ _ (extend_with_equality c.args.parent c.args.constant c.args.term) _ c.in_ok-book_test.ensures (is_inside _ c.in_ok-inside.ensures) (append_as _ _ _ (equated_added _ _ _ _ _ _ _ c.count.ensures.is c.count-2.ensures.is c.count-id.ensures.is refl c.named-operator.ensures c.name_parts-parts.ensures c.as_slice.ensures.value c.as_slice-2.ensures.value c.equality-terms.ensures c.row-contexts.ensures c.row-entries.ensures) c.next_node.ensures c.append.ensures)
+returns c = call_good _ _ (extend_with_equality c.args.parent c.args.constant c.args.term) _ c.in_ok-book_test.ensures (is_inside _ c.in_ok-inside.ensures) (append_as _ _ _ (equated_added _ _ _ _ _ _ _ c.count.ensures.is c.count-2.ensures.is c.count-id.ensures.is refl c.named-operator.ensures (rw (handed_on _ _ c.then_some.ensures) at c.name_parts-parts.ensures) c.as_slice.ensures.value c.as_slice-2.ensures.value c.equality-terms.ensures c.row-contexts.ensures c.row-entries.ensures) c.next_node.ensures c.append.ensures)

@@ -1,6 +1,15 @@
-use Rattle.std.proofs.Common.{rules, ◌≡◌, ◌∙◌, sym, not, nat_eq, count_by}
-use Rattle.levels.proofs.Marking.{count_is}
+use native.Mathlib.Omega.{arith}
+use Rattle.levels.proofs.Marking.{counted_none, counted_more, counted_all, counted_fits}
 use Rattle.levels.proofs.marks.declared_count.Goals as goal
 
+pub loop-level-init : goal.loop-level-init
+loop-level-init c = counted_none _
+
+pub overflow_add-n : goal.overflow_add-n
+overflow_add-n c = omega (arith, counted_fits c.loop-level.invariant c.loop-level-test.true c.declared-n.ensures)
+
+pub loop-level-preserved : goal.loop-level-preserved
+loop-level-preserved c = counted_more c.loop-level.invariant c.loop-level-test.true c.declared-n.ensures
+
 pub returns : goal.returns
-returns c = let n : c.count.result ≡ count_by (λ x. not (nat_eq x 0)) c.args.levels.now = search rules in n ∙ sym (count_is _)
+returns c = counted_all c.loop-level.invariant (omega arith)
