@@ -3,9 +3,12 @@ use Prim.Native.Nat.{ℕ, zero, suc, ◌+◌, ◌<◌, ◌≤◌}
 use native.Mathlib.Omega.{arith}
 use native.Mathlib.Decide.{ℕ_discrete}
 use mathlib.Core.Path.{◌≡◌, refl, sym, ap, ◌∙◌}
+use mathlib.Core.Bool.{true}
 use mathlib.Core.List.{[]}
+use denote.Enum.Bare.{sameb, same_true}
 use Rattle.book.specs.Book.{Book, terms, lists, size, field}
 use Rattle.book.specs.Decode.{kind_of}
+use Rattle.book.specs.contracts.kind.Kind.{the_type}
 use Rattle.book.specs.declared.kind.Kind.{Kind}
 use Rattle.book.specs.declared.kind.Kind.TheVariants.{Boolean, Integer, CustomLiteral, Id, BuiltIn, Application, IfThenElse, LetExpr, QuantifierExpr}
 use Rattle.book.specs.Kinds.{number_of, meant}
@@ -34,6 +37,10 @@ module _ (b : Book) (t : ℕ) where
   pub by_kind : (k : Kind) {n : ℕ} → n ≡ field b terms t 0 → number_of k ≡ n → kind_references b (meant k) t ≡ term_references b t
   unfolding term_references
   by_kind k e h = ap (λ x. kind_references b x t) (sym (kind_meant k (h ∙ e)))
+
+  -- by the kind that the code compared it with
+  pub by_same : (k j : Kind) {n : ℕ} → n ≡ field b terms t 0 → number_of k ≡ n → true ≡ sameb the_type k j → kind_references b (meant j) t ≡ term_references b t
+  by_same k j e h s = by_kind j e (rw (same_true the_type tt k j (sym s)) at h)
 
   -- any other number that is no kind with children
   childless : (k : ℕ) → (k ≡ 4 → ⊥) → (k ≡ 5 → ⊥) → (k ≡ 6 → ⊥) → (k ≡ 7 → ⊥) → (k ≡ 8 → ⊥) → kind_references b (kind_of k) t ≡ []

@@ -7,7 +7,7 @@ use Prim.Native.Nat.{ℕ, zero, suc, ◌+◌, ◌*◌, ◌/◌, ◌≤◌}
 use native.Mathlib.Omega.{arith}
 use native.Mathlib.Numerals.{add-one}
 use mathlib.Core.Path.{◌≡◌, refl, sym, ap, ◌∙◌}
-use mathlib.Core.Option.{Option, none, some}
+use mathlib.Core.Option.{Option, none, some, get_or}
 use mathlib.Core.Bool.{Bool, true, false}
 use mathlib.Core.List.{List, [], ◌∷◌, ◌++◌, map, append-nil}
 use lib.Dec.{leb}
@@ -21,7 +21,7 @@ use Rattle.name_search.specs.Names.{maybe}
 use Rattle.new_records.proofs.Parts.{letters_append}
 use Rattle.new_records.specs.Drafts.{NewTerm, NewNode, new_constant, identifier, equality, new_node, range_start, name_row, name_rows, all_letters, constant_row, term_row, node_row, addition_from}
 use Rattle.new_records.specs.Naming.{named, equals, trace_named}
-use Rattle.new_records.specs.NewNames.{maybe_text, given_text, new_text, optional, IsNamed, AreNamed, AreParts}
+use Rattle.new_records.specs.NewNames.{maybe_text, new_text, optional, IsNamed, AreNamed, AreParts}
 use Rattle.new_records.proofs.Names.{handed_on}
 use Rattle.new_records.specs.declared.naming.Numbered.{Numbered}
 use Rattle.new_records.specs.declared.naming.ProbeNames.{ProbeNames}
@@ -131,16 +131,14 @@ equated_added b p v t k l m {N} {P} {terms'} {node} {entries} {x} {ls} ek el em 
     (one_row (p ∷ suc (size b terms) ∷ 0 ∷ []) (en ∙ ap (λ (z : ℕ). row (p ∷ z ∷ 0 ∷ [])) (add-one m ∙ ap suc em)))
     (append-nil entries ∙ ee ∙ ap (λ (z : ℕ). row (z ∷ t ∷ [])) em)
 
--- Record and RecordTracePoint, with the probe's name
-pub probe_added : (b : Book) (probe : Text) (p typ k : ℕ) (t : Option ℕ) (trace : Option Text) {N : ProbeNames} {P : NameParts} {R : ProbeRows} {x ls n ts : List ℕ} → k ≡ size b letters
-    → AreNamed b probe trace N → AreParts k (optional N.probe.new probe ++ optional N.equals.new equals) (optional N.trace.new (given_text trace)) P
-    → x ≡ all_letters (optional N.trace.new (given_text trace))
+-- Record and RecordTracePoint, with the probe's name: u, v and w are the texts that are handed on of the probe, `=` and the trace
+pub probe_added : (b : Book) (probe : Text) (p typ k : ℕ) (t : Option ℕ) (trace : Option Text) {N : ProbeNames} {P : NameParts} {R : ProbeRows} {u v w : List Text} {x ls n ts : List ℕ} → k ≡ size b letters
+    → AreNamed b probe trace N → u ≡ optional N.probe.new probe → v ≡ optional N.equals.new equals → w ≡ optional N.trace.new (get_or trace []) → AreParts k (u ++ v) w P → x ≡ all_letters w
     → AreRows b N p typ t R → ls ≡ P.letters.items → n ≡ P.rows.items → ts ≡ R.terms.items → addition (ls ++ x) n R.constant ts R.node (R.entries ++ []) ≡ addition_from b (probe_draft_by b probe p t typ trace)
 unfolding addition_from probe_draft_by
-probe_added b probe p typ k t trace {N} {P} {R} {x} ek h parts ex rs ll nn tt' =
-    let before = optional N.probe.new probe ++ optional N.equals.new equals in
-    let all = sym h.texts in
-    by_parts (ap (λ (l : List ℕ). l ++ x) (ll ∙ parts.letters) ∙ ap (λ (l : List ℕ). all_letters before ++ l) ex ∙ sym (letters_append before (optional N.trace.new (given_text trace))) ∙ ap all_letters all)
+probe_added b probe p typ k t trace {N} {P} {R} {u} {v} {w} {x} ek h eu ev ew parts ex rs ll nn tt' =
+    let all : (u ++ v) ++ w ≡ (trace_named b probe trace).texts = rw (eu, ev, ew) (sym h.texts) in
+    by_parts (ap (λ (l : List ℕ). l ++ x) (ll ∙ parts.letters) ∙ ap (λ (l : List ℕ). all_letters (u ++ v) ++ l) ex ∙ sym (letters_append (u ++ v) w) ∙ ap all_letters all)
     (nn ∙ parts.rows ∙ ap rows (ap (name_rows k) all ∙ ap (λ (z : ℕ). name_rows z (trace_named b probe trace).texts) ek))
     (rs.constant ∙ ap (λ (z : ℕ). rows (map constant_row (new_constant z typ ∷ []))) h.probe)
     (tt' ∙ rs.terms ∙ ap (λ (z : ℕ). rows (map term_row (probe_terms b z t))) h.equals)

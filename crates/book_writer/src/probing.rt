@@ -42,7 +42,7 @@ fn record_as(
         probe: names.probe.new.then_some(probe),
         equals: names.equals.new.then_some(EQUALS),
     };
-    let new = if names.trace.new { trace } else { None };
+    let new = names.trace.new.then_some(trace).flatten();
     let parts = name_parts(count(book, LETTERS), &before, new);
     let rows = probe_rows(book, &names, parent, typ, term);
     let more = Additions {

@@ -6,16 +6,15 @@ use native.Mathlib.Numerals.{add-one}
 use mathlib.Core.Path.{◌≡◌, refl, sym, ap, ◌∙◌}
 use mathlib.Core.Bool.{Bool, true, false, true≢false, false≢true}
 use mathlib.Core.List.{List}
-use lib.ListN.{length, length-take, get_or, take, drop}
+use lib.ListN.{length, take, drop}
 use lib.Seq.{take-length}
-use Rattle.std.proofs.lemmas.List.{get_or-take}
 use Rattle.basics.specs.Text.{Text}
 use Rattle.smt_engines.specs.Reader.{Stack, first, over}
 use Rattle.live_lines.specs.LiveLines.{lines_at, push_at, last_push, push_place}
 use Rattle.live_lines.proofs.Popping.{last-place}
 use Rattle.level_lines.specs.AsOften.{as_often, same_levels}
 use Rattle.level_lines.specs.LevelLines.{lines_in, stack_of, has_push}
-use Rattle.level_lines.proofs.Stacks.{View, flat, tall, view}
+use Rattle.level_lines.proofs.Stacks.{View, flat, tall, view, stack_front}
 
 module _ (s : Text) (starts : List ℕ) where
   has-place : (n : ℕ) → has_push s starts n ≡ is_some (push_place s starts n)
@@ -26,12 +25,6 @@ module _ (s : Text) (starts : List ℕ) where
       at : (x : Bool) → has_push s starts k ≡ is_some (push_place s starts k) → (if x then true else has_push s starts k) ≡ is_some (if x then Some k else push_place s starts k)
       at true e = refl
       at false e = e
-
-  -- fewer starts
-  stack_fewer : (n m : ℕ) → m ≤ n → stack_of s (take n starts) m ≡ stack_of s starts m
-  unfolding stack_of
-  stack_fewer n zero h = refl
-  stack_fewer n (suc j) h = let e : get_or (take n starts) j 0 ≡ get_or starts j 0 = get_or-take n starts j 0 (omega arith) in rw (e, stack_fewer n j (omega arith))
 
   -- a stack of one level, and one of more
   pub one_level : {r : Option ℕ} → r ≡ push_place s starts (length starts) → r ≡ None → stack_of s starts (length starts) ≡ first (lines_at s starts)
@@ -51,8 +44,7 @@ module _ (s : Text) (starts : List ℕ) where
       by (flat p st g) = absurd (true≢false (ap is_some (sym t ∙ e) ∙ sym (has-place (length starts)) ∙ p))
       by (tall p st m g) =
           let q : last_push s starts (length starts) ≡ k = last-place s starts (length starts) ∙ ap (λ (o : Option ℕ). unwrap_or o 0) (sym e ∙ t) in
-          let n : length (take k starts) ≡ k = omega (arith, length-take k starts, q, m) in
-          rw (u, v, n, stack_fewer k k (omega arith)) (st ∙ rw (q, add-one k, take-length starts))
+          rw (u, v, stack_front s starts k (omega (arith, q, m))) (st ∙ rw (q, add-one k, take-length starts))
 
 -- ---- level after level
 abbrev pub Level : (st su sv sw : Stack) → Type 0

@@ -5,17 +5,17 @@ use native.Mathlib.Decide.{dec_lt}
 use mathlib.Core.Path.{◌≡◌, refl, sym, ap, ◌∙◌}
 use mathlib.Core.Bool.{Bool, true, false}
 use mathlib.Core.List.{List, [], ◌∷◌, ◌++◌}
-use lib.ListN.{length, get_or, take, length-take}
+use lib.ListN.{length, get_or, take}
 use lib.Seq.{take-suc}
-use Rattle.std.proofs.lemmas.List.{get_or-take}
-use Rattle.basics.specs.Text.{Text}
+use Rattle.basics.specs.Text.{Text, same}
 use Rattle.basics.specs.Lists.{all}
 use Rattle.basics.proofs.Bool.{and_both}
+use Rattle.smt_engines.specs.SmtEngines.{CMD_PUSH}
 use Rattle.smt_engines.specs.Reader.{Stack, first, over, join, Reader, live, hear_kind, hear, hear_all}
 use Rattle.command_lines.specs.Lines.{line_at}
 use Rattle.live_lines.specs.LiveLines.{push_at, lines_at, last_push, is_live, Lives}
 use Rattle.live_lines.proofs.Living.{live_is, hear_snoc, all_snoc, lines_snoc, Told, push, joined, told}
-use Rattle.live_lines.proofs.Popping.{last_below}
+use Rattle.live_lines.proofs.Popping.{last_below, front_alone}
 use Rattle.level_lines.specs.LevelLines.{lines_in, grown, stack_of, has_push}
 use Rattle.level_lines.proofs.Parts.{part_snoc, part_end}
 
@@ -26,16 +26,10 @@ module _ (s : Text) (starts : List ℕ) where
     tall : has_push s starts n ≡ true → stack_of s starts n ≡ over (lines_in s starts (suc (last_push s starts n)) n) (stack_of s starts (last_push s starts n))
         → last_push s starts n < n → push_at s starts (last_push s starts n) ≡ true → View n
 
-  -- the first m alone leave what the first m of more leave
-  stack_below : (m k : ℕ) → k ≤ m → stack_of s (take m starts) k ≡ stack_of s starts k
-  unfolding stack_of
-  stack_below m zero h = refl
-  stack_below m (suc k) h = rw (get_or-take m starts k 0 (omega arith), stack_below m k (omega arith))
-
+  -- the first n alone leave what the first n of more leave
   pub stack_front : (n : ℕ) → n ≤ length starts → stack_of s (take n starts) (length (take n starts)) ≡ stack_of s starts n
-  stack_front n h =
-      let l : length (take n starts) ≡ n = omega (arith, length-take n starts) in
-      ap (stack_of s (take n starts)) l ∙ stack_below n n (omega arith)
+  unfolding stack_of
+  stack_front = front_alone (stack_of s) (λ k start st. grown (same (line_at s start) CMD_PUSH) (line_at s start) st) (λ xs ys. refl) (λ xs k. refl) starts
 
   last-push : (k : ℕ) → push_at s starts k ≡ true → last_push s starts (suc k) ≡ k
   unfolding last_push

@@ -25,6 +25,18 @@ unfolding dropped join
 dropped_join (first l) ls = refl
 dropped_join (over l st) ls = refl
 
+-- ---- what is told of the first k by a step for each start is the same of the first n alone
+module _ {A : Type 0} (f : List ℕ → ℕ → A) (step : (k start : ℕ) → A → A) (begin : (xs ys : List ℕ) → f xs 0 ≡ f ys 0) (more : (xs : List ℕ) (k : ℕ) → f xs (suc k) ≡ step k (get_or xs k 0) (f xs k))
+    (starts : List ℕ) where
+  front_below : (n k : ℕ) → k ≤ n → f (take n starts) k ≡ f starts k
+  front_below n zero h = begin (take n starts) starts
+  front_below n (suc k) h = more (take n starts) k ∙ rw (get_or-take n starts k 0 (omega arith), front_below n k (omega arith)) (sym (more starts k))
+
+  pub front_alone : (n : ℕ) → n ≤ length starts → f (take n starts) (length (take n starts)) ≡ f starts n
+  front_alone n h =
+      let l : length (take n starts) ≡ n = omega (arith, length-take n starts) in
+      ap (f (take n starts)) l ∙ front_below n n (omega arith)
+
 -- fewer starts
 all_fewer : (s : Text) (starts : List ℕ) (m n : ℕ) → m ≤ n → all (lines_at s (take n starts)) is_live ≡ true → all (lines_at s (take m starts)) is_live ≡ true
 unfolding all lines_at
@@ -94,16 +106,9 @@ module _ (s : Text) (starts : List ℕ) where
       at true e = refl
       at false e = e
 
-  -- among the first m
-  place_below : (m k : ℕ) → k ≤ m → push_place s (take m starts) k ≡ push_place s starts k
-  unfolding push_place
-  place_below m zero h = refl
-  place_below m (suc k) h = rw (get_or-take m starts k 0 (omega arith), place_below m k (omega arith))
-
   pub place_front : (n : ℕ) → n ≤ length starts → push_place s (take n starts) (length (take n starts)) ≡ push_place s starts n
-  place_front n h =
-      let l : length (take n starts) ≡ n = omega (arith, length-take n starts) in
-      ap (push_place s (take n starts)) l ∙ place_below n n (omega arith)
+  unfolding push_place
+  place_front = front_alone (push_place s) (λ k start p. if same (line_at s start) CMD_PUSH then Some k else p) (λ xs ys. refl) (λ xs k. refl) starts
 
   -- the line before the first n
   module _ {n a : ℕ} {r : Bool} (h : 0 < n) (e : a ≡ get_or starts (n - 1) 0) (q : r ≡ same (line_at s a) CMD_PUSH) where

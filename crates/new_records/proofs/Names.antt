@@ -1,6 +1,7 @@
 -- Where a text stands among the names of a book and the new ones behind them.
 use Rattle.std.specs.Prelude.{Some, None, if◌then◌else◌}
 use Rattle.std.specs.Bool.{then_some}
+use Rattle.std.specs.Option.{option_flatten}
 use Rattle.std.specs.Prelude as code
 use Prim.Native.Nat.{ℕ, suc, ◌+◌, ◌≤◌}
 use native.Mathlib.Omega.{arith}
@@ -8,7 +9,7 @@ use denote.Bor.{Bor}
 use mathlib.Core.Path.{◌≡◌, refl, sym, ap, ◌∙◌}
 use mathlib.Core.Bool.{Bool, true, false, not}
 use mathlib.Core.List.{List, [], ◌∷◌, ◌++◌, append-nil}
-use mathlib.Core.Option.{Option, none, some}
+use mathlib.Core.Option.{Option, none, some, get_or}
 use lib.ListN.{length, length-append}
 use Rattle.basics.specs.Text.{Text, same}
 use Rattle.book.specs.Book.{Book, names, size}
@@ -16,7 +17,7 @@ use Rattle.name_search.specs.Names.{later, position, texts, first_name, number_o
 use Rattle.name_search.proofs.Searching.{or_later, position_append, texts_length, first_below}
 use Rattle.new_records.specs.Drafts.{all_letters}
 use Rattle.new_records.specs.Naming.{named_by, named, equals, probe_named, equals_named, trace_named}
-use Rattle.new_records.specs.NewNames.{maybe_text, given_text, optional, new_text, new_before, is_none, stands, IsBehind, IsNamed, AreNamed}
+use Rattle.new_records.specs.NewNames.{maybe_text, optional, new_text, new_before, is_none, stands, IsBehind, IsNamed, AreNamed}
 use Rattle.new_records.proofs.Parts.{letters_append}
 use Rattle.new_records.specs.declared.naming.Numbered.{Numbered}
 use Rattle.new_records.specs.declared.naming.ProbeNames.{ProbeNames}
@@ -158,7 +159,7 @@ module _ (b : Book) (P : Text) {first operator : Numbered} (w1 : IsNamed b P [] 
 
   pub some_trace : (T : Bor Text) {last : Numbered} → IsNamed b T.now (optional first.new P ++ optional operator.new equals) last
       → AreNamed b P (maybe_text (Some T)) (record { probe = first; equals = operator; trace = last })
-  unfolding maybe given_text trace_named
+  unfolding maybe trace_named
   some_trace T {last} w3 =
       record {
         probe = sym probe_is;
@@ -172,14 +173,19 @@ module _ (b : Book) (P : Text) {first operator : Numbered} (w1 : IsNamed b P [] 
       }
 
 -- ---- the trace is handed on where it is new, and it is new only where it is given
-pub trace_new : (o : New) {b : Book} {P : Text} {N : ProbeNames} → AreNamed b P (maybe_text o) N → N.trace.new ≡ true → new_text o ≡ optional N.trace.new (given_text (maybe_text o))
-unfolding maybe given_text trace_named optional
+trace_new : (o : New) {b : Book} {P : Text} {N : ProbeNames} → AreNamed b P (maybe_text o) N → N.trace.new ≡ true → new_text o ≡ optional true (get_or (maybe_text o) [])
+unfolding maybe trace_named optional
 trace_new None {P = P} {N} w e =
     let before = optional N.probe.new P ++ optional N.equals.new equals in
     let none : before ≡ before ++ ([] ∷ []) = sym w.equals_text ∙ rw e at w.texts in
     absurd (omega (arith, ap length none, length-append before ([] ∷ [])))
-trace_new (Some t) w e = rw e
+trace_new (Some t) w e = refl
 
-pub trace_old : (t : Text) {p : Bool} → p ≡ false → new_text None ≡ optional p t
+pub trace_handed_on : (o : New) {b : Book} {P : Text} {N : ProbeNames} {m : code.Option New} {n : New} → AreNamed b P (maybe_text o) N → m ≡ then_some N.trace.new o → n ≡ option_flatten m
+    → new_text n ≡ optional N.trace.new (get_or (maybe_text o) [])
 unfolding optional
-trace_old t e = rw e
+trace_handed_on o {N = N} {n = n} w e f = by N.trace.new refl (f ∙ ap option_flatten e)
+  where
+    by : (p : Bool) → N.trace.new ≡ p → n ≡ option_flatten (then_some p o) → new_text n ≡ optional p (get_or (maybe_text o) [])
+    by true q g = ap new_text g ∙ trace_new o w q
+    by false q g = ap new_text g

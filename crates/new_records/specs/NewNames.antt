@@ -3,7 +3,7 @@ use Rattle.std.specs.Prelude.{ℕ, suc, ◌+◌, ◌≤◌, ◌≡◌, Bool, tru
 use Rattle.std.specs.Prelude as code
 use Rattle.std.specs.Option.{option_to_list, option_copied}
 use Rattle.std.specs.Borrow.{Bor}
-use Rattle.std.proofs.Math.Option.{Option, none, some}
+use Rattle.std.proofs.Math.Option.{Option, none, some, get_or}
 use Rattle.basics.specs.Bytes.{rows}
 use Rattle.basics.specs.Text.{Text}
 use Rattle.book.specs.Book.{Book, names, size}
@@ -19,11 +19,6 @@ use Rattle.new_records.specs.declared.naming.NameParts as parts-code
 -- a text that is handed over, if it came
 abbrev pub maybe_text : code.Option (Bor Text) → Option Text
 maybe_text o = maybe (option_copied o)
-
--- a text that was given; where none was, no letters
-unfoldable pub given_text : Option Text → Text
-given_text none = []
-given_text (some t) = t
 
 -- a text that is appended, if it is new
 abbrev pub new_text : code.Option (Bor Text) → List Text
@@ -65,7 +60,7 @@ pub record AreNamed (b : Book) (name : Text) (given : Option Text) (r : names-co
   pub low : r.trace.number ≤ size b names + 2
   pub probe_text : (probe_named b name).texts ≡ optional r.probe.new name
   pub equals_text : (equals_named b name).texts ≡ optional r.probe.new name ++ optional r.equals.new naming.equals
-  pub texts : (trace_named b name given).texts ≡ (optional r.probe.new name ++ optional r.equals.new naming.equals) ++ optional r.trace.new (given_text given)
+  pub texts : (trace_named b name given).texts ≡ (optional r.probe.new name ++ optional r.equals.new naming.equals) ++ optional r.trace.new (get_or given [])
   pub short : length (all_letters (optional r.probe.new name ++ optional r.equals.new naming.equals)) ≤ suc (length name)
 
 -- ---- the letters and rows of new names

@@ -3,9 +3,10 @@ use Rattle.std.specs.Prelude.{Result, Err}
 use Prim.Native.Nat.{ℕ, zero, suc, ◌-◌, ◌≤◌, ◌<◌}
 use native.Mathlib.Omega.{arith}
 use mathlib.Core.Path.{◌≡◌, refl, sym, ap, ◌∙◌}
-use mathlib.Core.List.{List, [], ◌∷◌, map}
+use mathlib.Core.List.{List}
 use mathlib.Core.Option.{none, some}
-use lib.ListN.{length, get_or}
+use lib.ListN.{length}
+use Rattle.std.proofs.lemmas.List.{get_or-map}
 use Rattle.basics.specs.Text.{Text}
 use Rattle.basics.specs.Outcome.{map_outcome}
 use Rattle.basics.specs.Buffer.{buffer_after}
@@ -14,12 +15,8 @@ use Rattle.book.specs.declared.Refusal.{Refusal}
 use Rattle.book.specs.declared.Refusal.TheVariants.{NoOperator}
 use Rattle.solver_expr.specs.Operators.{Equiv, operators, operator_of}
 use Rattle.solver_expr.specs.Print.{printed_value, fitting, Answered, operator_text, operator_call}
-use Rattle.printing.specs.Calls.{operator_count, operator_name}
-
-get_d_some : {A : Type 0} (xs : List A) (k : ℕ) (d : A) → k < length xs → get_or (map some xs) k none ≡ some (get_or xs k d)
-get_d_some [] k d h = absurd (omega arith)
-get_d_some (x ∷ xs) zero d h = refl
-get_d_some (x ∷ xs) (suc k) d h = get_d_some xs k d (omega arith)
+use Rattle.printing.specs.Calls.{operator_count, operator_name, entry}
+use Rattle.printing.proofs.OperatorTable.{name_is}
 
 module _ (code : ℕ) (x : List ℕ) where
   abbrev Named : Result ℕ Refusal → List ℕ → Type 0
@@ -33,8 +30,8 @@ module _ (code : ℕ) (x : List ℕ) where
   unfolding operator_call
   a_name name e a = rw (e (length x)) (a.answer, a.text)
 
--- a code's name, by its place in the table
-pub named : (code : ℕ) (x : List ℕ) {name : Text} {r : Result ℕ Refusal} {x1 : List ℕ} → 1 ≤ code → code ≤ operator_count → name ≡ operator_name (code - 1)
+-- what stands in the code for it is its operator's name
+pub named : (code : ℕ) (x : List ℕ) {name : Text} {r : Result ℕ Refusal} {x1 : List ℕ} → 1 ≤ code → code ≤ operator_count → name ≡ entry (code - 1)
     → Answered (fitting (length x) name) r x x1 → Named code x r x1
 unfolding operator_text operator_of operator_name
 named zero x l h e a = absurd (omega arith)
@@ -43,4 +40,4 @@ named (suc k) x {name} l h e a = a_name (suc k) x name told a
     told : (room : ℕ) → operator_text (operator_of (suc k)) room ≡ fitting room name
     told room =
         let j : suc k - 1 ≡ k = omega arith in
-        rw (get_d_some operators k Equiv (omega arith)) (sym (ap (fitting room) (e ∙ ap operator_name j)))
+        rw (get_or-map some operators k Equiv none (omega arith)) (sym (ap (fitting room) (e ∙ ap entry j ∙ name_is k (omega arith))))

@@ -1,37 +1,27 @@
--- The table of operator names: one test, computed over all codes.
-use Prim.Native.Nat.{ℕ, suc, ◌≤◌, ◌<◌}
+-- The table of operator names: one test, computed over the whole table.
+use Prim.Native.Nat.{ℕ, ◌≤◌, ◌<◌}
 use mathlib.Core.Path.{◌≡◌, refl}
-use mathlib.Core.List.{List, []}
 use mathlib.Core.Bool.{Bool, true, ◌&&◌}
-use Rattle.std.proofs.Math.Option.{Option, none, some}
 use lib.Dec.{leb}
 use lib.ListN.{length}
 use borrow.Author.Tests.{leb-true}
-use Rattle.basics.specs.Text.{Text, same}
+use Rattle.basics.specs.Text.{same}
 use Rattle.basics.specs.Lists.{all_below}
 use Rattle.basics.proofs.Bool.{and_both}
 use Rattle.basics.proofs.Counting.{below_each}
 use Rattle.basics.proofs.Texts.{same_eq}
-use Rattle.solver_expr.specs.Operators.{Operator, operator_of, operator_to_string}
-use Rattle.printing.specs.Calls.{operator_count, operator_name}
+use Rattle.solver_expr.specs.Operators.{operator_to_string}
+use Rattle.printing.specs.Calls.{operator_count, operator_name, names, entry}
 
 -- as many bytes as a name has at most
 abbrev width : ℕ
 width = 3
 
--- what the call writes of an operator
-unfoldable pub text_of : Option Operator → Text
-text_of none = []
-text_of (some op) = operator_to_string op
-
-unfoldable pub entry : ℕ → Text
-entry k = text_of (operator_of (suc k))
-
 unfoldable pub right : ℕ → Bool
 right k = leb (length (entry k)) width && same (entry k) (operator_name k)
 
 pub table : all_below operator_count right ≡ true
-unfolding all_below right same entry text_of operator_name operator_of operator_to_string
+unfolding all_below right names entry same operator_name operator_to_string
 table = refl
 
 module _ (k : ℕ) (h : k < operator_count) where

@@ -1,6 +1,6 @@
 -- What the calls print and operator write.
-use Rattle.std.specs.Prelude.{ℕ, Bool, length, get_or}
-use Rattle.basics.specs.Text.{Text}
+use Rattle.std.specs.Prelude.{ℕ, Bool, List, [], ◌∷◌, length, get_or}
+use Rattle.basics.specs.Text.{Text, ascii}
 use Rattle.book.specs.Book.{Book}
 use Rattle.book.specs.Decode.{term}
 use Rattle.solver_expr.specs.SolverExpr.{SExprPrintConfig, to_string}
@@ -21,3 +21,12 @@ operator_count = length operators
 -- the name of the operator whose code is k + 1
 unfoldable pub operator_name : ℕ → Text
 operator_name k = operator_to_string (get_or operators k Equiv)
+
+-- the names as they stand in the code, from its first code on
+unfoldable pub names : List Text
+names =
+    ascii "=" ∷ ascii "=>" ∷ ascii "and" ∷ ascii "or" ∷ ascii "=" ∷ ascii "<" ∷ ascii "<=" ∷ ascii "+" ∷ ascii "-" ∷ ascii "*" ∷ ascii "div" ∷ ascii "mod" ∷ ascii "not" ∷ ascii "-" ∷ []
+
+-- the one whose code is k + 1
+unfoldable pub entry : ℕ → Text
+entry k = get_or names k []

@@ -3,17 +3,17 @@ ghost use Rattle.std.proofs.Math.Option.{none};
 ghost use Rattle.std.specs.Prelude.{◌≡◌, ◌≤◌, ◌-◌, ℕ, IfSome, MatchOption};
 ghost use Rattle.solver_expr.specs.Operators.{operator_of};
 ghost use Rattle.solver_expr.specs.Print.{printed_value, fitting, operator_text, operator_call};
-ghost use Rattle.printing.specs.Calls.{operator_count, operator_name};
+ghost use Rattle.printing.specs.Calls.{operator_count, entry};
 
 use basics::put_all;
 use book::Refusal;
 use solver_expr::fitted;
 
 // The name of the operator with a code.
-#[tactic(auto, unfolding(solver_expr::specs::Operators::operator_of, solver_expr::specs::Operators::operator_to_string, solver_expr::specs::Print::operator_text, crate::specs::Calls::operator_name))]
+#[tactic(auto, unfolding(solver_expr::specs::Operators::operator_of, solver_expr::specs::Operators::operator_to_string, solver_expr::specs::Print::operator_text, crate::specs::Calls::names, crate::specs::Calls::entry))]
 fn name_of(code: usize) -> Option<&'static [u8]>
     ensures of_code { MatchOption result (operator_of code ≡ none) (λ name. (room : ℕ) → operator_text (operator_of code) room ≡ fitting room name.now) }
-    ensures in_table { IfSome result (λ name. (1 ≤ code) × (code ≤ operator_count) × (name.now ≡ operator_name (code - 1))) }
+    ensures in_table { IfSome result (λ name. (1 ≤ code) × (code ≤ operator_count) × (name.now ≡ entry (code - 1))) }
 {
     match code {
         1 => Some(b"="),
