@@ -24,6 +24,11 @@ pub table : all_below operator_count right ≡ true
 unfolding all_below right names entry same operator_name operator_to_string
 table = refl
 
+-- it has no more names
+pub whole : length names ≡ operator_count
+unfolding names
+whole = refl
+
 module _ (k : ℕ) (h : k < operator_count) where
   checked : (leb (length (entry k)) width ≡ true) × (same (entry k) (operator_name k) ≡ true)
   unfolding right
